@@ -1,0 +1,1 @@
+// The theory is in specs/ and proofs/. It has no code.
