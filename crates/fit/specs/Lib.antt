@@ -1,0 +1,3 @@
+pub mod Triples
+pub mod Verdict
+pub mod Check

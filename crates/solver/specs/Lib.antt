@@ -1,0 +1,4 @@
+pub mod Plain
+pub mod Rounds
+pub mod Unblocked
+pub mod Solve

@@ -1,0 +1,28 @@
+-- Document 01, "`solve` reads standard input": how the bytes are cut into records.
+-- Assumes nothing.
+use Prim.Native.Nat.{ℕ, _+_}
+use mathlib.Core.Bool.{Bool, _||_}
+use mathlib.Core.List.{List}
+use lib.Dec.{ltb}
+use lib.ListN.{length, take, drop}
+use Rattle.pairs.specs.Scans.{if_then_else_}
+use Rattle.records.specs.Records.{lengthIn}
+
+-- "More than 28,689 bytes": a mode byte, the longest context and the longest specification
+unfoldable pub solveLimit : ℕ
+solveLimit = 28689
+
+-- the longest context, specification and controller
+unfoldable pub fitLimit : ℕ
+fitLimit = 77848
+
+-- "The context record ends where its length says, or takes all bytes if that is too far or absent."
+unfoldable pub recordEnd : List ℕ → ℕ
+recordEnd b = if ltb (length b) 2 || ltb (length b) (lengthIn b + 2) then length b else lengthIn b + 2
+
+-- the first record of the bytes, and what stands behind it
+unfoldable pub firstRecord : List ℕ → List ℕ
+firstRecord b = take (recordEnd b) b
+
+unfoldable pub behind : List ℕ → List ℕ
+behind b = drop (recordEnd b) b
