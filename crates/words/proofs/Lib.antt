@@ -1,2 +1,3 @@
 pub mod Words
 pub mod Largest
+pub mod Subset
