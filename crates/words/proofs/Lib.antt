@@ -1,3 +1,6 @@
 pub mod Words
 pub mod Largest
 pub mod Subset
+pub mod Count
+pub mod Deletion
+pub mod Rounds
