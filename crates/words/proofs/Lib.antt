@@ -4,3 +4,5 @@ pub mod Subset
 pub mod Count
 pub mod Deletion
 pub mod Rounds
+pub mod Renamed
+pub mod Answer
