@@ -6,3 +6,4 @@ pub mod Deletion
 pub mod Rounds
 pub mod Renamed
 pub mod Answer
+pub mod Fit
