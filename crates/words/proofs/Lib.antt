@@ -7,3 +7,5 @@ pub mod Rounds
 pub mod Renamed
 pub mod Answer
 pub mod Fit
+pub mod Codes
+pub mod Examples
