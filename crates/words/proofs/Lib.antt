@@ -1,0 +1,11 @@
+pub mod Words
+pub mod Largest
+pub mod Subset
+pub mod Count
+pub mod Deletion
+pub mod Rounds
+pub mod Renamed
+pub mod Answer
+pub mod Fit
+pub mod Codes
+pub mod Examples
