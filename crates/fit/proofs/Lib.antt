@@ -1,1 +1,3 @@
 pub mod Replied
+pub mod Skids
+pub mod Order

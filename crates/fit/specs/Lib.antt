@@ -1,3 +1,4 @@
 pub mod Triples
 pub mod Verdict
 pub mod Check
+pub mod Skids

@@ -11,3 +11,4 @@ pub mod Discover
 pub mod Continues
 pub mod Reading
 pub mod Writing
+pub mod Skids

@@ -1,0 +1,54 @@
+-- The order of refusals of the check, on records written by hand from document 01, computed: each input has every later fault too.
+-- Assumes nothing.
+use mathlib.Core.Path.{_≡_, refl}
+use Prim.Native.Nat.{ℕ}
+use mathlib.Core.List.{List, [], _∷_}
+use lib.ListN.{replicate}
+use Rattle.pairs.specs.Scans.{same, less, total}
+use Rattle.pairs.specs.Sets.{pairLimit}
+use Rattle.records.specs.Limits.{stateLimit, setNumbers}
+use Rattle.records.specs.Layouts.{contextLayout, specificationLayout, controllerLayout}
+use Rattle.records.specs.Bytes.{little, numbers}
+use Rattle.records.specs.Records.{rowsOf}
+use Rattle.records.specs.Faults.{within, fieldsBelow, headFault, rowFault, rowsFault, fault}
+use Rattle.records.specs.Replies.{refusal, unless, _orElse_, faultReply, recordRefusal}
+use Rattle.records.specs.Matching.{skidRefusal, codesAgree, lettersAgree, productFits, codesRefusal, lettersRefusal, productRefusal}
+use Rattle.fit.specs.Check.{checkRefusal, check, setsChecked}
+
+-- I=O=U=V=1; 5 context states with 13 specification states
+abbrev context : List ℕ
+context = 0x07 ∷ 0 ∷ 0x43 ∷ 0x58 ∷ 1 ∷ 1 ∷ 1 ∷ 1 ∷ 5 ∷ []
+
+abbrev specification : ℕ → ℕ → ℕ → List ℕ
+specification i o states = 0x05 ∷ 0 ∷ 0x53 ∷ 0x50 ∷ i ∷ o ∷ states ∷ []
+
+abbrev controller : ℕ → ℕ → List ℕ
+controller u v = 0x06 ∷ 0 ∷ 0x43 ∷ 0x54 ∷ u ∷ v ∷ 1 ∷ 0 ∷ []
+
+order : (check [] [] [] []
+    ∷ check context [] [] []
+    ∷ check context (specification 2 1 13) [] []
+    ∷ check context (specification 2 1 13) (controller 2 1) []
+    ∷ check context (specification 1 2 13) (controller 2 1) []
+    ∷ check context (specification 1 1 13) (controller 2 1) []
+    ∷ check context (specification 1 1 13) (controller 1 2) []
+    ∷ check context (specification 1 1 13) (controller 1 1) []
+    ∷ check context (specification 1 1 12) (controller 1 1) (replicate 511 0)
+    ∷ []) ≡
+    refusal 1 1 0 0
+    ∷ refusal 1 2 0 0
+    ∷ refusal 1 3 0 0
+    ∷ refusal 8 2 0 0
+    ∷ refusal 8 2 0 0
+    ∷ refusal 8 3 0 0
+    ∷ refusal 8 3 0 0
+    ∷ refusal 9 0 0 0
+    ∷ refusal 10 0 0 0
+    ∷ []
+unfolding same less total pairLimit stateLimit setNumbers contextLayout specificationLayout controllerLayout little numbers rowsOf within fieldsBelow headFault rowFault rowsFault fault unless _orElse_ faultReply recordRefusal skidRefusal codesAgree lettersAgree productFits codesRefusal lettersRefusal productRefusal checkRefusal check
+order = refl
+
+-- a refused check writes nothing
+unwritten : setsChecked context (specification 1 1 13) (controller 1 1) (replicate 514 7) ≡ replicate 514 7
+unfolding same less total pairLimit stateLimit setNumbers contextLayout specificationLayout controllerLayout little numbers rowsOf within fieldsBelow headFault rowFault rowsFault fault unless _orElse_ faultReply recordRefusal skidRefusal codesAgree lettersAgree productFits codesRefusal lettersRefusal productRefusal checkRefusal setsChecked
+unwritten = refl

@@ -1,0 +1,11 @@
+-- K6's verdict and K12's three, computed.
+-- Assumes nothing.
+use mathlib.Core.Path.{_≡_, refl}
+use mathlib.Core.List.{[]}
+use Rattle.pairs.specs.Scans.{all}
+use Rattle.records.specs.Skids.{skids, failing}
+use Rattle.fit.specs.Skids.{checks}
+
+pub skids-checked : failing (λ c. all (checks c) (c .checking)) 0 skids ≡ []
+unfolding failing skids all checks
+skids-checked = refl

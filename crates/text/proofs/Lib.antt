@@ -1,0 +1,2 @@
+pub mod Skids
+pub mod Texts

@@ -1,0 +1,72 @@
+-- Input and printed text of both programs, written by hand from document 01, computed: how the input is cut, and the refusal lines.
+-- Assumes nothing.
+use mathlib.Core.Path.{_≡_, refl}
+use Prim.Native.Nat.{ℕ, _+_}
+use mathlib.Core.List.{List, [], _∷_, _++_}
+use lib.ListN.{replicate}
+use Rattle.pairs.specs.Scans.{same, less, total}
+use Rattle.records.specs.Layouts.{contextLayout, specificationLayout}
+use Rattle.records.specs.Bytes.{little, numbers}
+use Rattle.records.specs.Records.{rowsOf}
+use Rattle.records.specs.Faults.{within, fieldsBelow, headFault, rowFault, rowsFault, fault}
+use Rattle.records.specs.Replies.{success, unless, _orElse_, faultReply, recordRefusal}
+use Rattle.records.specs.Matching.{skidRefusal}
+use Rattle.records.specs.Limits.{setNumbers, nextNumbers}
+use Rattle.fit.specs.Check.{checkRefusal, check}
+use Rattle.solver.specs.Solve.{solveRefusal, solve, setsSolved, nextSolved}
+use Rattle.text.specs.Lines.{decimal, digits, line, statesWord, roundsWord, refusedWord, recordWord, rowWord, fitsWord, refusedText, solvedText, checkedText}
+use Rattle.text.specs.Inputs.{solveLimit, fitLimit, recordEnd, firstRecord, behind}
+use Rattle.text.specs.Programs.{solvePrinted, solveText, fitText}
+
+-- "refused N record K row 0 rounds 0" of one digit or two; "fits states 12"
+abbrev refusedLine : List ℕ → ℕ → List ℕ
+refusedLine n k = 114 ∷ 101 ∷ 102 ∷ 117 ∷ 115 ∷ 101 ∷ 100 ∷ 32
+    ∷ (n ++ (32 ∷ 114 ∷ 101 ∷ 99 ∷ 111 ∷ 114 ∷ 100 ∷ 32 ∷ (48 + k) ∷ 32 ∷ 114 ∷ 111 ∷ 119 ∷ 32 ∷ 48 ∷ 32 ∷ 114 ∷ 111 ∷ 117 ∷ 110 ∷ 100 ∷ 115 ∷ 32 ∷ 48 ∷ 10 ∷ []))
+
+one : List ℕ
+one = 49 ∷ []
+
+thirteen : List ℕ
+thirteen = 49 ∷ 51 ∷ []
+
+fits : checkedText (success 12 0) ≡ 102 ∷ 105 ∷ 116 ∷ 115 ∷ 32 ∷ 115 ∷ 116 ∷ 97 ∷ 116 ∷ 101 ∷ 115 ∷ 32 ∷ 49 ∷ 50 ∷ 10 ∷ []
+unfolding checkedText fitsWord statesWord line digits decimal
+fits = refl
+
+-- the longest input, and one byte more; no byte at all; mode 2; a mode byte alone; a context length of 0 and of 1, one too long, and one that is exact
+solves : (solveText (replicate 28690 0)
+    ∷ solveText (2 ∷ replicate 28688 0)
+    ∷ solveText []
+    ∷ solveText (2 ∷ [])
+    ∷ solveText (1 ∷ [])
+    ∷ solveText (0 ∷ 0 ∷ 0 ∷ 0x43 ∷ [])
+    ∷ solveText (0 ∷ 1 ∷ 0 ∷ 0x43 ∷ 0x58 ∷ [])
+    ∷ solveText (0 ∷ 8 ∷ 0 ∷ 0x43 ∷ 0x58 ∷ 1 ∷ 1 ∷ 1 ∷ 1 ∷ 1 ∷ [])
+    ∷ solveText (0 ∷ 7 ∷ 0 ∷ 0x43 ∷ 0x58 ∷ 1 ∷ 1 ∷ 1 ∷ 1 ∷ 1 ∷ [])
+    ∷ []) ≡
+    refusedLine one 0
+    ∷ refusedLine thirteen 0
+    ∷ refusedLine thirteen 0
+    ∷ refusedLine thirteen 0
+    ∷ refusedLine one 1
+    ∷ refusedLine one 1
+    ∷ refusedLine one 1
+    ∷ refusedLine one 1
+    ∷ refusedLine one 2
+    ∷ []
+unfolding one thirteen same less total setNumbers nextNumbers contextLayout specificationLayout little numbers rowsOf within fieldsBelow headFault rowFault rowsFault fault unless _orElse_ faultReply recordRefusal skidRefusal solveRefusal solve setsSolved nextSolved decimal digits line statesWord roundsWord refusedWord recordWord rowWord refusedText solvedText solveLimit recordEnd firstRecord behind solvePrinted solveText
+solves = refl
+
+-- one byte too many; no byte at all; a context and no specification; a context, a specification and no controller
+checks : (fitText (replicate 77849 0)
+    ∷ fitText []
+    ∷ fitText (7 ∷ 0 ∷ 0x43 ∷ 0x58 ∷ 1 ∷ 1 ∷ 1 ∷ 1 ∷ 1 ∷ [])
+    ∷ fitText (7 ∷ 0 ∷ 0x43 ∷ 0x58 ∷ 1 ∷ 1 ∷ 1 ∷ 1 ∷ 1 ∷ 5 ∷ 0 ∷ 0x53 ∷ 0x50 ∷ 1 ∷ 1 ∷ 1 ∷ [])
+    ∷ []) ≡
+    refusedLine one 0
+    ∷ refusedLine one 1
+    ∷ refusedLine one 2
+    ∷ refusedLine one 3
+    ∷ []
+unfolding one same less total setNumbers contextLayout specificationLayout little numbers rowsOf within fieldsBelow headFault rowFault rowsFault fault unless _orElse_ faultReply recordRefusal skidRefusal checkRefusal check decimal digits line roundsWord refusedWord recordWord rowWord refusedText checkedText fitLimit recordEnd firstRecord behind fitText
+checks = refl
