@@ -1,4 +1,4 @@
--- Document 01, "Skids to test on": K1 to K10 as bytes, with what document 01 says of each, and two skids more for what these leave open.
+-- Document 01, "Skids to test on": K1 to K10 as bytes, with what document 01 says of each, and four skids more for what these leave open.
 -- Written from document 01; what the definitions make of them is stated where they are computed.
 -- Assumes nothing.
 use Prim.Native.Nat.{ℕ, suc, _+_, _*_}
@@ -63,10 +63,14 @@ table mode states rounds sets rows = record { mode = mode; number = 0; states = 
 abbrev nothing : ℕ → Solving
 nothing rounds = record { mode = 1; number = 12; states = 0; rounds = rounds; sets = []; rows = [] }
 
+abbrev judged : List ℕ → ℕ → ℕ → List ℕ → Checking
+judged controller number states reached = record { controller = controller; number = number; states = states; reached = reached }
+
 abbrev solvedOnly : List ℕ → List ℕ → List Solving → Case
 solvedOnly cb sb solving = record { context = cb; specification = sb; solving = solving; checking = []; printing = [] }
 
--- "I=O=U=V=2, u follows i, o follows v; specification o = i", byte for byte; what `solve` prints; and K12's three verdicts
+-- "I=O=U=V=2, u follows i, o follows v; specification o = i", byte for byte; what `solve` prints; K12's three verdicts; and
+-- K1's answer beside a state that nothing reaches, which need not be complete
 unfoldable pub k1 : Case
 unfolding controllerRecord flatMap
 k1 = record {
@@ -78,9 +82,10 @@ k1 = record {
       table 1 1 0 (1 ∷ []) ((0 ∷ 0 ∷ 0 ∷ 0 ∷ []) ∷ (0 ∷ 1 ∷ 1 ∷ 0 ∷ []) ∷ []) ∷
       [];
   checking =
-      record { controller = controllerRecord (2 ∷ 2 ∷ 1 ∷ 0 ∷ []) ((0 ∷ 0 ∷ 0 ∷ 0 ∷ 0 ∷ 0 ∷ []) ∷ []); number = 14; states = 0; reached = [] } ∷
-      record { controller = controllerRecord (2 ∷ 2 ∷ 1 ∷ 0 ∷ []) ((0 ∷ 0 ∷ 0 ∷ 1 ∷ 0 ∷ 0 ∷ []) ∷ (0 ∷ 0 ∷ 1 ∷ 1 ∷ 0 ∷ 0 ∷ []) ∷ []); number = 15; states = 0; reached = 1 ∷ [] } ∷
-      record { controller = controllerRecord (2 ∷ 2 ∷ 1 ∷ 0 ∷ []) ((0 ∷ 0 ∷ 0 ∷ 0 ∷ 0 ∷ 0 ∷ []) ∷ (0 ∷ 0 ∷ 1 ∷ 1 ∷ 0 ∷ 0 ∷ []) ∷ []); number = 0; states = 1; reached = 1 ∷ [] } ∷
+      judged (controllerRecord (2 ∷ 2 ∷ 1 ∷ 0 ∷ []) ((0 ∷ 0 ∷ 0 ∷ 0 ∷ 0 ∷ 0 ∷ []) ∷ [])) 14 0 [] ∷
+      judged (controllerRecord (2 ∷ 2 ∷ 1 ∷ 0 ∷ []) ((0 ∷ 0 ∷ 0 ∷ 1 ∷ 0 ∷ 0 ∷ []) ∷ (0 ∷ 0 ∷ 1 ∷ 1 ∷ 0 ∷ 0 ∷ []) ∷ [])) 15 0 (1 ∷ []) ∷
+      judged (controllerRecord (2 ∷ 2 ∷ 1 ∷ 0 ∷ []) ((0 ∷ 0 ∷ 0 ∷ 0 ∷ 0 ∷ 0 ∷ []) ∷ (0 ∷ 0 ∷ 1 ∷ 1 ∷ 0 ∷ 0 ∷ []) ∷ [])) 0 1 (1 ∷ []) ∷
+      judged (controllerRecord (2 ∷ 2 ∷ 2 ∷ 0 ∷ []) ((0 ∷ 0 ∷ 0 ∷ 0 ∷ 0 ∷ 0 ∷ []) ∷ (0 ∷ 0 ∷ 1 ∷ 1 ∷ 0 ∷ 0 ∷ []) ∷ [])) 0 2 (1 ∷ 0 ∷ []) ∷
       [];
   -- "states 1 rounds 0", "0 0 0 0", "0 1 1 0"
   printing =
@@ -143,7 +148,7 @@ k6 = record {
   context = contextRecord (2 ∷ 1 ∷ 1 ∷ 2 ∷ 1 ∷ []) ((0 ∷ 0 ∷ 0 ∷ 0 ∷ 0 ∷ 0 ∷ []) ∷ (0 ∷ 1 ∷ 1 ∷ 0 ∷ 0 ∷ 0 ∷ []) ∷ []);
   specification = freeTwo;
   solving = table 1 1 0 (1 ∷ []) ((0 ∷ 0 ∷ 0 ∷ 0 ∷ []) ∷ (0 ∷ 0 ∷ 1 ∷ 0 ∷ []) ∷ []) ∷ [];
-  checking = record { controller = controllerRecord (1 ∷ 2 ∷ 1 ∷ 0 ∷ []) ((0 ∷ 0 ∷ 0 ∷ 0 ∷ 0 ∷ 0 ∷ []) ∷ []); number = 16; states = 0; reached = 1 ∷ [] } ∷ [];
+  checking = judged (controllerRecord (1 ∷ 2 ∷ 1 ∷ 0 ∷ []) ((0 ∷ 0 ∷ 0 ∷ 0 ∷ 0 ∷ 0 ∷ []) ∷ [])) 16 0 (1 ∷ []) ∷ [];
   printing = [];
 }
 
@@ -202,9 +207,34 @@ uBeforeV = solvedOnly
     (2 ∷ 0 ∷ 0 ∷ 1 ∷ []) ∷ (2 ∷ 0 ∷ 1 ∷ 1 ∷ []) ∷ (2 ∷ 1 ∷ 0 ∷ 1 ∷ []) ∷ (2 ∷ 1 ∷ 1 ∷ 1 ∷ []) ∷
     (3 ∷ 0 ∷ 0 ∷ 1 ∷ []) ∷ (3 ∷ 0 ∷ 1 ∷ 1 ∷ []) ∷ (3 ∷ 1 ∷ 0 ∷ 1 ∷ []) ∷ (3 ∷ 1 ∷ 1 ∷ 1 ∷ []) ∷ []) ∷ [])
 
+-- State 0 goes to 1 on v=0 and to 2 on v=1; 1 is blocked as in K2, 2 loops on all: plain state 1 goes, and plain state 2 gets the number 1.
+unfoldable pub renumbered : Case
+unfolding contextRecord flatMap freeTwo
+renumbered = solvedOnly
+    (contextRecord (2 ∷ 1 ∷ 1 ∷ 2 ∷ 3 ∷ []) (
+    (0 ∷ 0 ∷ 0 ∷ 0 ∷ 0 ∷ 1 ∷ []) ∷ (0 ∷ 0 ∷ 1 ∷ 0 ∷ 0 ∷ 2 ∷ []) ∷ (0 ∷ 1 ∷ 0 ∷ 0 ∷ 0 ∷ 1 ∷ []) ∷ (0 ∷ 1 ∷ 1 ∷ 0 ∷ 0 ∷ 2 ∷ []) ∷
+    (1 ∷ 0 ∷ 0 ∷ 0 ∷ 0 ∷ 1 ∷ []) ∷ (1 ∷ 0 ∷ 1 ∷ 0 ∷ 0 ∷ 1 ∷ []) ∷
+    (2 ∷ 0 ∷ 0 ∷ 0 ∷ 0 ∷ 2 ∷ []) ∷ (2 ∷ 0 ∷ 1 ∷ 0 ∷ 0 ∷ 2 ∷ []) ∷ (2 ∷ 1 ∷ 0 ∷ 0 ∷ 0 ∷ 2 ∷ []) ∷ (2 ∷ 1 ∷ 1 ∷ 0 ∷ 0 ∷ 2 ∷ []) ∷ []))
+    freeTwo (
+    table 0 3 0 (1 ∷ 2 ∷ 4 ∷ []) (
+    (0 ∷ 0 ∷ 0 ∷ 1 ∷ []) ∷ (0 ∷ 0 ∷ 1 ∷ 2 ∷ []) ∷ (1 ∷ 0 ∷ 0 ∷ 1 ∷ []) ∷ (1 ∷ 0 ∷ 1 ∷ 1 ∷ []) ∷ (2 ∷ 0 ∷ 0 ∷ 2 ∷ []) ∷ (2 ∷ 0 ∷ 1 ∷ 2 ∷ []) ∷ []) ∷
+    table 1 2 1 (1 ∷ 4 ∷ []) ((0 ∷ 0 ∷ 1 ∷ 1 ∷ []) ∷ (1 ∷ 0 ∷ 0 ∷ 1 ∷ []) ∷ (1 ∷ 0 ∷ 1 ∷ 1 ∷ []) ∷ []) ∷
+    [])
+
+-- The context has o=1 on i=0, where the specification has o=0, and nothing on i=1: a table both leaves and blocks, and "leaves" comes first.
+unfoldable pub bothFaults : Case
+unfolding contextRecord specificationRecord controllerRecord flatMap
+bothFaults = record {
+  context = contextRecord (2 ∷ 2 ∷ 1 ∷ 1 ∷ 1 ∷ []) ((0 ∷ 0 ∷ 0 ∷ 0 ∷ 1 ∷ 0 ∷ []) ∷ []);
+  specification = specificationRecord (2 ∷ 2 ∷ 1 ∷ []) ((0 ∷ 0 ∷ 0 ∷ 0 ∷ []) ∷ []);
+  solving = table 0 1 0 (1 ∷ []) [] ∷ nothing 1 ∷ [];
+  checking = judged (controllerRecord (1 ∷ 1 ∷ 1 ∷ 0 ∷ []) ((0 ∷ 0 ∷ 0 ∷ 0 ∷ 0 ∷ 0 ∷ []) ∷ [])) 15 0 (1 ∷ []) ∷ [];
+  printing = [];
+}
+
 unfoldable pub skids : List Case
-unfolding k1 k2 k3 k4 k5 k6 k7 k8 k9 k10 twoPairs uBeforeV
-skids = k1 ∷ k2 ∷ k3 ∷ k4 ∷ k5 ∷ k6 ∷ k7 ∷ k8 ∷ k9 ∷ k10 ∷ twoPairs ∷ uBeforeV ∷ []
+unfolding k1 k2 k3 k4 k5 k6 k7 k8 k9 k10 twoPairs uBeforeV renumbered bothFaults
+skids = k1 ∷ k2 ∷ k3 ∷ k4 ∷ k5 ∷ k6 ∷ k7 ∷ k8 ∷ k9 ∷ k10 ∷ twoPairs ∷ uBeforeV ∷ renumbered ∷ bothFaults ∷ []
 
 -- the numbers of the skids that fail a test, from number j on
 unfoldable pub failing : (Case → Bool) → ℕ → List Case → List ℕ

@@ -1,4 +1,4 @@
--- K1 to K10 and two skids more, solved: number, states, rounds, sets and rows, both buffers whole.
+-- K1 to K10 and four skids more, solved: number, states, rounds, sets and rows, both buffers whole.
 -- Assumes nothing.
 use mathlib.Core.Path.{_≡_, refl}
 use mathlib.Core.List.{[]}
