@@ -1,0 +1,4 @@
+pub mod Numbering
+pub mod Discover
+pub mod Fuel
+pub mod Reached
