@@ -1,2 +1,6 @@
+pub mod Numbering
+pub mod Discover
+pub mod Fuel
+pub mod Reached
 pub mod Refusals
 pub mod Lent

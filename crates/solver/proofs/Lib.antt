@@ -1,3 +1,5 @@
 pub mod Modes
-pub mod Skids
+pub mod Kept
+pub mod Rounds
 pub mod Order
+pub mod Skids

@@ -1,2 +1,3 @@
-pub mod Skids
+pub mod Lines
 pub mod Texts
+pub mod Skids
