@@ -1,3 +1,4 @@
 pub mod Replied
 pub mod Skids
 pub mod Order
+pub mod Determined

@@ -1,6 +1,5 @@
 // The fit check of a controller table against context and specification.
-ghost use mathlib.Core.Path.{_≡_};
-ghost use Rattle.fit.specs.Verdict.{verdictReply};
+ghost use Rattle.fit.specs.Verdict.{Replied};
 use records::Reply;
 
 // What the check finds of a table that was read, in the order in which it is asked.
@@ -13,7 +12,7 @@ pub enum Verdict {
 
 // The reply that a verdict on a controller of so many states gives.
 pub fn verdict_reply(verdict: Verdict, states: u32) -> Reply
-    ensures { λ r. ⌜ r ≡ verdictReply states verdict ⌝ }
+    ensures { λ r. ⌜ Replied states verdict r ⌝ }
 {
     match verdict {
         Verdict::Incomplete => records::refused(14, 0),

@@ -4,3 +4,4 @@ pub mod Fuel
 pub mod Reached
 pub mod Refusals
 pub mod Lent
+pub mod Determined

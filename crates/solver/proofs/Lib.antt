@@ -3,3 +3,4 @@ pub mod Kept
 pub mod Rounds
 pub mod Order
 pub mod Skids
+pub mod Determined

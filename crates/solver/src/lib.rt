@@ -1,6 +1,5 @@
 // The plain answer and the unblocked answer.
-ghost use mathlib.Core.Path.{_≡_};
-ghost use Rattle.solver.specs.Solve.{wantedBy};
+ghost use Rattle.solver.specs.Solve.{WantedBy};
 
 // The answer that a mode asks for.
 pub enum Wanted {
@@ -18,7 +17,7 @@ pub enum Answer {
 
 // The answer that a mode number asks for.
 pub fn wanted_by(mode: u32) -> Wanted
-    ensures { λ r. ⌜ r ≡ wantedBy mode ⌝ }
+    ensures { λ r. ⌜ WantedBy mode r ⌝ }
 {
     match mode {
         0 => Wanted::Plain,

@@ -1,5 +1,6 @@
 -- Document 01, "Output": the lines that the programs print.
 -- Assumes nothing.
+use mathlib.Core.Path.{_≡_}
 use Prim.Native.Nat.{ℕ, zero, suc, _+_, _*_, _/_, _%_}
 use mathlib.Core.Bool.{Bool}
 use mathlib.Core.List.{List, [], _∷_, _++_, flatMap}
@@ -24,6 +25,9 @@ digits n = decimal (suc n) n
 -- "Each line ends with byte 0A."
 abbrev pub lineEnd : ℕ
 lineEnd = 0x0A
+
+abbrev pub LineEnd : ℕ → Type 0
+LineEnd b = b ≡ lineEnd
 
 -- numbers with a blank between, and the line's end
 unfoldable pub line : List ℕ → List ℕ
