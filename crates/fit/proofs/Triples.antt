@@ -154,7 +154,7 @@ module _ (k : Tables) (asked : ℕ → ℕ → Bool) (legal : Legal k) (states :
   -- the fuel of the definition suffices
   triples-settled : Settled (triples k states next)
   unfolding triples
-  triples-settled = grown-settled (states * width) (startSets k states next) (swept-length k asked legal states next table 0) (omega arith)
+  triples-settled = grown-settled _ (startSets k states next) (swept-length k asked legal states next table 0) (omega arith)
 
   triples-swept : (n : ℕ) × (triples k states next ≡ swept k states next n)
   unfolding triples

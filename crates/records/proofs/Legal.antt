@@ -1,33 +1,28 @@
 -- Two records without fault give legal tables, and a controller record without fault gives a next table of its states.
 -- Assumes nothing.
-use mathlib.Core.Path.{_≡_, sym, ap, _∙_}
-use mathlib.Core.List.{List, List·Memᴰ}
-use Prim.Native.Nat.{ℕ, zero, suc, _≤_, _<_}
+use mathlib.Core.Path.{_≡_, sym, ap}
+use mathlib.Core.List.{List}
+use Prim.Native.Nat.{ℕ, zero, suc, _<_}
 use native.Mathlib.Omega.{arith}
-use lib.ListN.{length, getD, take, length-take}
-use lib.Seq.{ext-getD, getD-take}
+use lib.ListN.{getD}
 use Rattle.records.specs.declared.Fault.the-variants.{Sound}
-use Rattle.records.specs.Limits.{stateLimit, absent}
+use Rattle.records.specs.Limits.{stateLimit}
 use Rattle.records.specs.Layouts.{contextLayout, specificationLayout, controllerLayout}
 use Rattle.records.specs.Records.{countsIn, rowsIn}
 use Rattle.records.specs.Faults.{fault}
 use Rattle.records.specs.Tables.{skidOf, controllerTable, cNext}
 use Rattle.records.specs.Meaning.{NextTable, Keyed, Legal}
-use Rattle.records.proofs.Sound.{row-length, field-below, count-within, one-key}
+use Rattle.records.proofs.Sound.{field-below, count-within, one-key}
 use Rattle.records.proofs.NextTables.{next-table}
 
--- the key of a context row
-key-same : (r r′ : List ℕ) → length r ≡ 6 → length r′ ≡ 6 → Keyed (getD r 0 0) (getD r 1 0) (getD r 2 0) (getD r 3 0) (getD r 4 0) r′ → take 5 r ≡ take 5 r′
-key-same r r′ e e′ y = ext-getD 0 (take 5 r) (take 5 r′) (simp (length-take, e, e′))
-    λ i h. let h′ : i < 5 = rw (length-take, e) at h in getD-take 5 r i 0 h′ ∙ go i h′ ∙ sym (getD-take 5 r′ i 0 h′)
-  where
-    go : (i : ℕ) → i < 5 → getD r i 0 ≡ getD r′ i 0
-    go zero h = sym (y .same-state)
-    go (suc zero) h = sym (y .same-i)
-    go (suc (suc zero)) h = sym (y .same-v)
-    go (suc (suc (suc zero))) h = sym (y .same-u)
-    go (suc (suc (suc (suc zero)))) h = sym (y .same-o)
-    go (suc (suc (suc (suc (suc i))))) h = absurd (omega arith)
+-- the fields of a context row's key
+key-fields : (r r′ : List ℕ) → Keyed (getD r 0 0) (getD r 1 0) (getD r 2 0) (getD r 3 0) (getD r 4 0) r′ → (j : ℕ) → j < 5 → getD r j 0 ≡ getD r′ j 0
+key-fields r r′ y zero h = sym (y .same-state)
+key-fields r r′ y (suc zero) h = sym (y .same-i)
+key-fields r r′ y (suc (suc zero)) h = sym (y .same-v)
+key-fields r r′ y (suc (suc (suc zero))) h = sym (y .same-u)
+key-fields r r′ y (suc (suc (suc (suc zero)))) h = sym (y .same-o)
+key-fields r r′ y (suc (suc (suc (suc (suc j))))) h = absurd (omega arith)
 
 pub legal-skid : (cb sb : List ℕ) → fault contextLayout cb ≡ Sound → fault specificationLayout sb ≡ Sound → Legal (skidOf cb sb)
 unfolding skidOf contextLayout specificationLayout
@@ -41,7 +36,7 @@ legal-skid cb sb ec es = record {
     o-below = field-below contextLayout cb ec r m 4 (omega arith) (omega arith);
     next-below = field-below contextLayout cb ec r m 5 (omega arith) (omega arith);
   };
-  one-next = λ r r′ m m′ y. ap cNext (one-key contextLayout cb ec r r′ m m′ (key-same r r′ (row-length contextLayout cb ec r m) (row-length contextLayout cb ec r′ m′) y));
+  one-next = λ r r′ m m′ y. ap cNext (one-key contextLayout cb ec r r′ m m′ (key-fields r r′ y));
   specification-table =
       let (low, high) = count-within specificationLayout sb es 2 (omega arith) (omega arith) in
       next-table (getD (countsIn specificationLayout sb) 0 0) (getD (countsIn specificationLayout sb) 1 0) (getD (countsIn specificationLayout sb) 2 0) (rowsIn specificationLayout sb)

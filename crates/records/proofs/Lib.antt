@@ -1,6 +1,8 @@
 pub mod Order
 pub mod Sound
-pub mod NextTables
-pub mod Legal
 pub mod Rows
+pub mod NextTables
+pub mod TableRows
+pub mod Legal
 pub mod Places
+pub mod Read

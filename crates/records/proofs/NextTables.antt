@@ -1,4 +1,4 @@
--- The next table of rows: it has a place for each step of each state, and is a next table of so many states where the rows' nexts are states.
+-- The next table of rows: it has a place for each step of each state, and where the rows' nexts are states, it is a next table of these states.
 -- Assumes nothing.
 use mathlib.Core.Path.{_≡_, refl, _∙_}
 use mathlib.Core.Logic.{_⊎_, inl, inr}
@@ -39,18 +39,19 @@ module _ (at : List ℕ → ℕ) where
   entered-entries states (r ∷ rows) below acc each = entered-entries states rows (λ r m. below r (List·Memᴰ·tail m)) (set acc (at r) (getD r 3 0))
       (set-entries states acc (at r) (getD r 3 0) (below r (List·Memᴰ·head refl)) each)
 
-module _ (m n states : ℕ) (rows : List (List ℕ)) where
-  abbrev pub rowPlace : List ℕ → ℕ
-  rowPlace r = stepPlace m n (getD r 0 0) (getD r 1 0) (getD r 2 0)
+-- the place of a row (state, x, y, next)
+abbrev pub rowPlace : ℕ → ℕ → List ℕ → ℕ
+rowPlace m n r = stepPlace m n (getD r 0 0) (getD r 1 0) (getD r 2 0)
 
+module _ (m n states : ℕ) (rows : List (List ℕ)) where
   pub table-length : length (tableOf m n states rows) ≡ states * (m * n)
   unfolding tableOf
-  table-length = entered-length rowPlace rows (replicate (states * (m * n)) absent) ∙ length-replicate (states * (m * n)) absent
+  table-length = entered-length (rowPlace m n) rows (replicate (states * (m * n)) absent) ∙ length-replicate (states * (m * n)) absent
 
   pub next-table : 0 < states → states ≤ absent → ((r : List ℕ) → List·Memᴰ r rows → getD r 3 0 < states) → NextTable states (tableOf m n states rows)
   unfolding tableOf
   next-table start few below = record {
     occupied = start;
     few = few;
-    entry = entered-entries rowPlace states rows below (replicate (states * (m * n)) absent) (λ p. inl (getD-replicate-same (states * (m * n)) p absent));
+    entry = entered-entries (rowPlace m n) states rows below (replicate (states * (m * n)) absent) (λ p. inl (getD-replicate-same (states * (m * n)) p absent));
   }

@@ -7,7 +7,8 @@ use Prim.Native.Nat.{ℕ, zero, suc, _+_, _-_, _%_, _≤_, _<_}
 use native.Mathlib.Nat.{not-suc-le-zero, le-of-suc-le-suc}
 use native.Mathlib.Omega.{arith}
 use lib.Dec.{T, leb, ltb, eqb, leb→le, ltb→lt}
-use lib.ListN.{length, getD, take, drop, length-take}
+use lib.ListN.{length, getD, drop, length-take}
+use lib.Seq.{ext-getD, getD-take}
 use borrow.Author.Tests.{not-false}
 use mir.Facts.{and-yes}
 use Rattle.pairs.specs.Scans.{if_then_else_, same, less, total}
@@ -16,7 +17,7 @@ use Rattle.records.specs.declared.Fault.the-variants.{Sound, Length, Kin
 use Rattle.records.specs.Layouts.{Layout}
 use Rattle.records.specs.Bytes.{numbers}
 use Rattle.records.specs.Records.{rowsOf, lengthIn, kindIn, headSize, rowSize, countsIn, rowCount, rowsIn}
-use Rattle.records.specs.Faults.{faultNumber, isSound, within, fieldsBelow, keyOf, headFault, rowFault, rowsFault, fault}
+use Rattle.records.specs.Faults.{isSound, within, fieldsBelow, keyOf, headFault, rowFault, rowsFault, fault}
 use Rattle.records.proofs.Order.{less-self, less-trans, less-other}
 
 sound : (f : Fault) → isSound f ≡ true → f ≡ Sound
@@ -164,5 +165,7 @@ module _ (l : Layout) (b : List ℕ) (e : fault l b ≡ Sound) where
   count-within j h g = within-at (countsIn l b) (l .limits) (counts-within l b (parts .0)) j (subst (λ n. j < n) (sym (length-numbers (l .countSizes) (drop 4 b))) h) g
 
   -- "Keys rise strictly": no key twice
-  pub one-key : (r r′ : List ℕ) → List·Memᴰ r (rowsIn l b) → List·Memᴰ r′ (rowsIn l b) → keyOf l r ≡ keyOf l r′ → r ≡ r′
-  one-key = one-row l (length (l .fieldSizes)) (countsIn l b) [] (rowsIn l b) row-length rising
+  pub one-key : (r r′ : List ℕ) → List·Memᴰ r (rowsIn l b) → List·Memᴰ r′ (rowsIn l b) → ((j : ℕ) → j < l .keySize → getD r j 0 ≡ getD r′ j 0) → r ≡ r′
+  one-key r r′ m m′ same = one-row l (length (l .fieldSizes)) (countsIn l b) [] (rowsIn l b) row-length rising r r′ m m′
+      (ext-getD 0 (keyOf l r) (keyOf l r′) (key-length l (length (l .fieldSizes)) r r′ (row-length r m) (row-length r′ m′))
+      λ j h. let h′ : j < l .keySize = omega (arith, length-take (l .keySize) r) in getD-take (l .keySize) r j 0 h′ ∙ same j h′ ∙ sym (getD-take (l .keySize) r′ j 0 h′))
