@@ -11,7 +11,7 @@ use lib.ListN.{getD}
 use mir.Facts.{and-yes, yes-and}
 use Rattle.pairs.specs.Scans.{if_then_else_, first}
 use Rattle.records.specs.Limits.{absent}
-use Rattle.records.specs.NextTables.{stepPlace, there}
+use Rattle.records.specs.NextTables.{there}
 use Rattle.records.specs.Tables.{Skid as Tables, cState, cI, cV, cU, cO, cNext, specNext}
 use Rattle.records.specs.Meaning.{hasKey, contextNext, NextTable, Keyed, Legal, skid}
 
@@ -100,7 +100,7 @@ module _ (k : Tables) (legal : Legal k) where
   -- the specification goes to one of its states
   pub spec-below : (c i o c′ : ℕ) → specNext k c i o ≡ some c′ → c′ < k .nC
   unfolding specNext
-  spec-below c i o c′ e = entry-below (k .nC) (k .specification) (legal .specification-table) (stepPlace (k .nI) (k .nO) c i o) c′ e
+  spec-below c i o c′ e = entry-below (k .nC) (k .specification) (legal .specification-table) _ c′ e
 
   -- a row of the context as a step of the skid, and that it is one from its state
   abbrev pub action : (asked : ℕ → ℕ → Bool) (r : List ℕ) → List·Memᴰ r (k .context) → skid k asked .Act
