@@ -4,3 +4,6 @@ pub mod Rows
 pub mod Sweep
 pub mod Swept
 pub mod Triples
+pub mod Held
+pub mod Leaves
+pub mod Blocks
