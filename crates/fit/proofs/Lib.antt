@@ -1,4 +1,12 @@
 pub mod Replied
-pub mod Skids
+pub mod Adds
+pub mod Rows
+pub mod Sweep
+pub mod Swept
+pub mod Triples
+pub mod Held
+pub mod Leaves
+pub mod Blocks
 pub mod Order
+pub mod Skids
 pub mod Determined

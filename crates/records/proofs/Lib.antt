@@ -1,3 +1,11 @@
+pub mod Order
+pub mod Sound
+pub mod NextTables
+pub mod TableRows
+pub mod Rows
+pub mod Legal
+pub mod Places
+pub mod Read
 pub mod Numbering
 pub mod Discover
 pub mod Fuel

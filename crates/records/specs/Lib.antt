@@ -6,6 +6,7 @@ pub mod Faults
 pub mod Replies
 pub mod NextTables
 pub mod Tables
+pub mod Meaning
 pub mod Matching
 pub mod Discover
 pub mod Continues

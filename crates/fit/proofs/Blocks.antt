@@ -1,0 +1,135 @@
+-- The check finds that a controller blocks exactly if "some triple has an i with no joint step".
+-- Assumes nothing.
+use mathlib.Core.Path.{_≡_, refl, sym, ap, subst, _∙_}
+use mathlib.Core.Logic.{_↔_, _⊎_, inl, inr, ⊎-elim, ∥∥₁-elim}
+use mathlib.Core.HLevel.{⊥-prop}
+use mathlib.Core.Bool.{Bool, true, false, not, _&&_}
+use mathlib.Core.Option.{IsSome}
+use mathlib.Core.List.{List, [], _∷_, List·Memᴰ, List·Memᴰ·head, List·Memᴰ·tail}
+use Prim.Native.Nat.{ℕ, _<_}
+use lib.Dec.{T, T-not, not-T, eqb, eqb→eq}
+use mir.Facts.{and-yes, yes-and}
+use Rattle.words.specs.Skid.{letter}
+use Rattle.words.specs.Fit.{Joins}
+use Rattle.words.proofs.Words.{known, is-some}
+use Rattle.words.proofs.Codes.{same-code}
+use Rattle.words.proofs.Count.{kept-or-not}
+use Rattle.pairs.specs.Scans.{if_then_else_, all, left}
+use Rattle.pairs.specs.Sets.{pairPlace, contextOf, specificationOf}
+use Rattle.pairs.proofs.Scans.{imp-yes, all-yes, any-yes, yes-any}
+use Rattle.pairs.proofs.Sets.{pair-context, pair-specification}
+use Rattle.records.specs.Tables.{Skid as Tables, cState, cI, cNext, rowLetter, nextAt}
+use Rattle.records.specs.Continues.{continuesOn, continues}
+use Rattle.records.specs.Meaning.{NextTable, Legal, skid, tableStep}
+use Rattle.records.proofs.Rows.{has-there, action, row-context}
+use Rattle.records.proofs.Places.{left-mem, mem-left}
+use Rattle.fit.specs.Triples.{has, triples}
+use Rattle.fit.specs.Verdict.{blocks}
+use Rattle.fit.proofs.Sweep.{Held}
+use Rattle.fit.proofs.Rows.{same-yes, joint-row}
+use Rattle.fit.proofs.Held.{any-triple}
+use Rattle.fit.proofs.Triples.{triples-exactly}
+
+not-imp : (a b : Bool) → T (not (if a then b else true)) → T a × (¬ T b)
+not-imp true b t = (tt, T-not b t)
+not-imp false b t = absurd t
+
+not-all : {E : Type 0} (p : E → Bool) (l : List E) → T (not (all p l)) → (x : E) × List·Memᴰ x l × T (not (p x))
+unfolding all
+not-all p [] t = absurd t
+not-all {E} p (y ∷ l) t = go (p y) refl (not-all p l) t
+  where
+    go : (b : Bool) → p y ≡ b → (T (not (all p l)) → (x : E) × List·Memᴰ x l × T (not (p x))) → T (not (if b then all p l else false)) → (x : E) × List·Memᴰ x (y ∷ l) × T (not (p x))
+    go true e rest t = let (x, m, h) = rest t in (x, List·Memᴰ·tail m, h)
+    go false e rest t = (y, List·Memᴰ·head refl, subst (λ b. T (not b)) (sym e) tt)
+
+module _ (k : Tables) (asked : ℕ → ℕ → Bool) (states : ℕ) (next : List ℕ) where
+  -- on i the context from a and the controller from d have a joint step
+  abbrev pub Goes : ℕ → ℕ → skid k asked .In → Type 0
+  Goes a d i = (x : skid k asked .Act) × (skid k asked .inp x ≡ i) × IsSome (skid k asked .ctx a x) × IsSome (tableStep k asked next d (letter (skid k asked) x))
+
+  -- a triple of P has an asked i without joint step
+  pub record Blocked (P : ℕ → ℕ → ℕ → Type 0) : Type 0 where
+    pub a : ℕ
+    pub c : ℕ
+    pub d : ℕ
+    pub i : skid k asked .In
+    pub from : P a c d
+    pub wanted : skid k asked .asked c i
+    pub stuck : ¬ Goes a d i
+
+  abbrev on : ℕ → ℕ → ℕ → Bool
+  on d a i = continuesOn k (has k states next d) a i
+
+  module _ (legal : Legal k) where
+    goes-law : (a c d : ℕ) → c < k .nC → (i : skid k asked .In) → T (on d a (i .0)) ↔ Goes a d i
+    unfolding continuesOn
+    goes-law a c d hc i = (
+      λ t. let (r, m, t₁) = any-yes onRow (k .context) t in
+          let (t₂, t₃) = and-yes (eqb (cState r) a && eqb (cI r) (i .0)) (has k states next d (rowLetter k r)) t₁ in
+          let (t₄, t₅) = and-yes (eqb (cState r) a) (eqb (cI r) (i .0)) t₂ in (
+            action k legal asked r m,
+            same-code {a = (cI r, legal .context-rows r m .i-below)} {b = i} (eqb→eq (cI r) (i .0) t₅),
+            is-some {t = cNext r} (row-context k legal asked a r m (eqb→eq (cState r) a t₄)),
+            is-some {t = nextAt k next d (rowLetter k r)} (has-there (nextAt k next d (rowLetter k r)) t₃),
+          ),
+      λ g. let (x, e, ha, hd) = g in
+          let (a′, ea) = known (skid k asked .ctx a x) ha in
+          let (d′, ed) = known (tableStep k asked next d (letter (skid k asked) x)) hd in
+          let j = joint-row k asked states next a c d x a′ d′ hc ea ed in
+          let (t₁, t₂) = and-yes (eqb (cState (j .row)) (contextOf (k .nC) (pairPlace (k .nC) a c))) (has k states next d (rowLetter k (j .row))) (j .joint) in
+          yes-any onRow (k .context) (j .row) (j .is-row)
+          (yes-and (eqb (cState (j .row)) a && eqb (cI (j .row)) (i .0)) (has k states next d (rowLetter k (j .row)))
+          (yes-and (eqb (cState (j .row)) a) (eqb (cI (j .row)) (i .0)) (rw (pair-context (k .nC) a c hc) at t₁) (same-yes (j .same-i ∙ ap (λ b. b .0) e))) t₂),
+    )
+      where
+        onRow : List ℕ → Bool
+        onRow r = eqb (cState r) a && eqb (cI r) (i .0) && has k states next d (rowLetter k r)
+
+    goes-or-stuck : (a c d : ℕ) → c < k .nC → (i : skid k asked .In) → Goes a d i ⊎ (¬ Goes a d i)
+    goes-or-stuck a c d hc i = ⊎-elim (λ t. inl (goes-law a c d hc i .0 t)) (λ f. inr (λ g. f (goes-law a c d hc i .1 g))) (kept-or-not (on d a (i .0)))
+
+    abbrev onInput : ℕ → ℕ → ℕ → Bool
+    onInput d p i = if asked (specificationOf (k .nC) p) i then on d (contextOf (k .nC) p) i else true
+
+    pub blocks-law : (sets : List ℕ) → T (blocks k states next asked sets) ↔ Blocked (Held k states sets)
+    unfolding blocks continues
+    blocks-law sets = (
+      λ t. let (a, c, d, h, t₁) = any-triple k legal states next sets (λ s p. not (continues k (has k states next s) asked p)) .0 t in
+          let (i, mi, t₂) = not-all (onInput d (pairPlace (k .nC) a c)) (left 0 (k .nI)) t₁ in
+          let (want, stuck) = not-imp (asked (specificationOf (k .nC) (pairPlace (k .nC) a c)) i) (on d (contextOf (k .nC) (pairPlace (k .nC) a c)) i) t₂ in
+          record {
+            a = a;
+            c = c;
+            d = d;
+            i = (i, mem-left (k .nI) i mi);
+            from = h;
+            wanted = subst (λ c. T (asked c i)) (pair-specification (k .nC) a c (h .1 .1)) want;
+            stuck = λ g. stuck (subst (λ a. T (on d a i)) (sym (pair-context (k .nC) a c (h .1 .1))) (goes-law a c d (h .1 .1) (i, mem-left (k .nI) i mi) .1 g));
+          },
+      λ b. let hc : b .c < k .nC = b .from .1 .1 in
+          any-triple k legal states next sets (λ s p. not (continues k (has k states next s) asked p)) .1 (
+            b .a,
+            b .c,
+            b .d,
+            b .from,
+            not-T (continues k (has k states next (b .d)) asked (pairPlace (k .nC) (b .a) (b .c))) (λ t. b .stuck (goes-law (b .a) (b .c) (b .d) hc (b .i) .0
+                (subst (λ a. T (on (b .d) a (b .i .0))) (pair-context (k .nC) (b .a) (b .c) hc)
+                (imp-yes (asked (specificationOf (k .nC) (pairPlace (k .nC) (b .a) (b .c))) (b .i .0)) (on (b .d) (contextOf (k .nC) (pairPlace (k .nC) (b .a) (b .c))) (b .i .0))
+                (all-yes (onInput (b .d) (pairPlace (k .nC) (b .a) (b .c))) (left 0 (k .nI)) t (b .i .0) (left-mem (k .nI) (b .i .0) (b .i .1)))
+                (subst (λ c. T (asked c (b .i .0))) (sym (pair-specification (k .nC) (b .a) (b .c) hc)) (b .wanted)))))),
+          ),
+    )
+
+    -- the controller joins, as the theory has it, exactly if the check does not find that it blocks
+    pub joins-law : NextTable states next → Joins (skid k asked) (tableStep k asked next) 0 ↔ (¬ T (blocks k states next asked (triples k states next)))
+    joins-law table = (
+      λ f t. let b = blocks-law (triples k states next) .0 t in
+          ∥∥₁-elim (f (b .a) (b .c) (b .d) (triples-exactly k asked legal states next table (b .a) (b .c) (b .d) .0 (b .from)) (b .i) (b .wanted)) ⊥-prop (b .stuck),
+      λ h a c d t i want.
+          let held = triples-exactly k asked legal states next table a c d .1 t in
+          ⊎-elim
+          (λ g. ∣ g ∣₁)
+          (λ n. absurd (h (blocks-law (triples k states next) .1 (record { a = a; c = c; d = d; i = i; from = held; wanted = want; stuck = n }))))
+          (goes-or-stuck a c d (held .1 .1) i),
+    )

@@ -1,0 +1,171 @@
+-- What a record without fault holds: counts from 1 to their limits, each field below its count, no key twice.
+-- Assumes nothing.
+use mathlib.Core.Path.{_≡_, refl, sym, ap, subst, _∙_}
+use mathlib.Core.Bool.{Bool, true, false, not, _&&_, _||_, true≢false, false≢true}
+use mathlib.Core.List.{List, [], _∷_, List·Memᴰ, List·Memᴰ·head, List·Memᴰ·tail, List·Memᴰ·not-nil}
+use Prim.Native.Nat.{ℕ, zero, suc, _+_, _-_, _%_, _≤_, _<_}
+use native.Mathlib.Nat.{not-suc-le-zero, le-of-suc-le-suc}
+use native.Mathlib.Omega.{arith}
+use lib.Dec.{T, leb, ltb, eqb, leb→le, ltb→lt}
+use lib.ListN.{length, getD, drop, length-take}
+use lib.Seq.{ext-getD, getD-take}
+use borrow.Author.Tests.{not-false}
+use mir.Facts.{and-yes}
+use Rattle.pairs.specs.Scans.{if_then_else_, same, less, total}
+use Rattle.records.specs.declared.Fault.{Fault}
+use Rattle.records.specs.declared.Fault.the-variants.{Sound, Length, Kind, Cut, Limit, Code, EqualKey, LowerKey}
+use Rattle.records.specs.Layouts.{Layout}
+use Rattle.records.specs.Bytes.{numbers}
+use Rattle.records.specs.Records.{rowsOf, lengthIn, kindIn, headSize, rowSize, countsIn, rowCount, rowsIn}
+use Rattle.records.specs.Faults.{isSound, within, fieldsBelow, keyOf, headFault, rowFault, rowsFault, fault}
+use Rattle.records.proofs.Order.{less-self, less-trans, less-other}
+
+sound : (f : Fault) → isSound f ≡ true → f ≡ Sound
+sound Sound e = refl
+sound Length e = absurd (false≢true e)
+sound Kind e = absurd (false≢true e)
+sound Cut e = absurd (false≢true e)
+sound Limit e = absurd (false≢true e)
+sound (Code row) e = absurd (false≢true e)
+sound (EqualKey row) e = absurd (false≢true e)
+sound (LowerKey row) e = absurd (false≢true e)
+
+-- one test of a chain that finds nothing
+passed : (c : Bool) (f rest : Fault) → isSound f ≡ false → (if c then f else rest) ≡ Sound → (c ≡ false) × (rest ≡ Sound)
+passed true f rest n e = absurd (true≢false (sym (ap isSound e) ∙ n))
+passed false f rest n e = (refl, e)
+
+-- of two findings the first decides
+both : (f rest : Fault) → (if isSound f then rest else f) ≡ Sound → (f ≡ Sound) × (rest ≡ Sound)
+both f rest = go (isSound f) refl
+  where
+    go : (b : Bool) → isSound f ≡ b → (if b then rest else f) ≡ Sound → (f ≡ Sound) × (rest ≡ Sound)
+    go true p e = (sound f p, e)
+    go false p e = absurd (true≢false (sym (ap isSound e) ∙ p))
+
+or-false-left : (a b : Bool) → (a || b) ≡ false → a ≡ false
+or-false-left true b e = absurd (true≢false e)
+or-false-left false b e = refl
+
+length-numbers : (ws b : List ℕ) → length (numbers ws b) ≡ length ws
+unfolding numbers
+length-numbers [] b = refl
+length-numbers (w ∷ ws) b = ap suc (length-numbers ws (drop w b))
+
+rows-length : (ws : List ℕ) (n : ℕ) (b r : List ℕ) → List·Memᴰ r (rowsOf ws n b) → length r ≡ length ws
+unfolding rowsOf
+rows-length ws zero b r m = absurd (List·Memᴰ·not-nil m)
+rows-length ws (suc n) b r (List·Memᴰ·head e) = ap length e ∙ length-numbers ws b
+rows-length ws (suc n) b r (List·Memᴰ·tail m) = rows-length ws n (drop (total ws) b) r m
+
+within-at : (xs ls : List ℕ) → T (within xs ls) → (j : ℕ) → j < length xs → j < length ls → (1 ≤ getD xs j 0) × (getD xs j 0 ≤ getD ls j 0)
+unfolding within
+within-at [] ls t j h g = absurd (not-suc-le-zero h)
+within-at (x ∷ xs) [] t j h g = absurd (not-suc-le-zero g)
+within-at (x ∷ xs) (l ∷ ls) t zero h g =
+    let (t₁, t₂) = and-yes (leb 1 x) (leb x l) (and-yes (leb 1 x && leb x l) (within xs ls) t .0) in
+    (leb→le 1 x t₁, leb→le x l t₂)
+within-at (x ∷ xs) (l ∷ ls) t (suc j) h g = within-at xs ls (and-yes (leb 1 x && leb x l) (within xs ls) t .1) j (le-of-suc-le-suc h) (le-of-suc-le-suc g)
+
+below-at : (counts xs ks : List ℕ) → T (fieldsBelow counts xs ks) → (j : ℕ) → j < length xs → j < length ks → getD xs j 0 < getD counts (getD ks j 0) 0
+unfolding fieldsBelow
+below-at counts [] ks t j h g = absurd (not-suc-le-zero h)
+below-at counts (x ∷ xs) [] t j h g = absurd (not-suc-le-zero g)
+below-at counts (x ∷ xs) (k ∷ ks) t zero h g = ltb→lt x (getD counts k 0) (and-yes (ltb x (getD counts k 0)) (fieldsBelow counts xs ks) t .0)
+below-at counts (x ∷ xs) (k ∷ ks) t (suc j) h g = below-at counts xs ks (and-yes (ltb x (getD counts k 0)) (fieldsBelow counts xs ks) t .1) j (le-of-suc-le-suc h) (le-of-suc-le-suc g)
+
+module _ (l : Layout) where
+  -- a row that is sound, after the key before it
+  record RowSound (counts before r : List ℕ) : Type 0 where
+    fields : T (fieldsBelow counts r (l .below))
+    new : same (keyOf l r) before ≡ false
+    up : less (keyOf l r) before ≡ false
+
+  row-sound : (counts : List ℕ) (k : ℕ) (before r : List ℕ) → rowFault l counts k before r ≡ Sound → RowSound counts before r
+  unfolding rowFault
+  row-sound counts k before r e =
+      let (p₁, e₁) = passed (not (fieldsBelow counts r (l .below))) (Code k) _ refl e in
+      let (p₂, e₂) = passed (same (keyOf l r) before) (EqualKey k) _ refl e₁ in
+      let (p₃, e₃) = passed (less (keyOf l r) before) (LowerKey k) Sound refl e₂ in
+      record { fields = subst T (sym (not-false (fieldsBelow counts r (l .below)) p₁)) tt; new = p₂; up = p₃ }
+
+  -- all rows are
+  abbrev Rising : List ℕ → List ℕ → List (List ℕ) → Type 0
+  Rising counts before [] = Unit {0}
+  Rising counts before (r ∷ rs) = RowSound counts before r × Rising counts (keyOf l r) rs
+
+  rows-rising : (counts : List ℕ) (k : ℕ) (before : List ℕ) (rows : List (List ℕ)) → rowsFault l counts k before rows ≡ Sound → Rising counts before rows
+  unfolding rowsFault
+  rows-rising counts k before [] e = tt
+  rows-rising counts k before (r ∷ rs) e =
+      let (e₁, e₂) = both (rowFault l counts k before r) (rowsFault l counts (suc k) (keyOf l r) rs) e in
+      (row-sound counts k before r e₁, rows-rising counts (suc k) (keyOf l r) rs e₂)
+
+  fields-below : (counts before : List ℕ) (rows : List (List ℕ)) → Rising counts before rows → (r : List ℕ) → List·Memᴰ r rows → T (fieldsBelow counts r (l .below))
+  fields-below counts before (x ∷ rows) h r (List·Memᴰ·head e) = subst (λ r. T (fieldsBelow counts r (l .below))) (sym e) (h .0 .fields)
+  fields-below counts before (x ∷ rows) h r (List·Memᴰ·tail m) = fields-below counts (keyOf l x) rows (h .1) r m
+
+  -- rows of one length
+  module _ (size : ℕ) where
+    key-length : (r r′ : List ℕ) → length r ≡ size → length r′ ≡ size → length (keyOf l r) ≡ length (keyOf l r′)
+    key-length r r′ e e′ = simp (length-take, e, e′)
+
+    later-above : (counts x : List ℕ) (rows : List (List ℕ)) → length x ≡ size → ((r : List ℕ) → List·Memᴰ r rows → length r ≡ size)
+        → Rising counts (keyOf l x) rows → (r : List ℕ) → List·Memᴰ r rows → less (keyOf l x) (keyOf l r) ≡ true
+    later-above counts x [] sx sizes h r m = absurd (List·Memᴰ·not-nil m)
+    later-above counts x (y ∷ rows) sx sizes h r m =
+        go m (less-other (keyOf l y) (keyOf l x) (key-length y x (sizes y (List·Memᴰ·head refl)) sx) (h .0 .new) (h .0 .up))
+        (λ m′. later-above counts y rows (sizes y (List·Memᴰ·head refl)) (λ r m. sizes r (List·Memᴰ·tail m)) (h .1) r m′)
+      where
+        go : List·Memᴰ r (y ∷ rows) → less (keyOf l x) (keyOf l y) ≡ true → (List·Memᴰ r rows → less (keyOf l y) (keyOf l r) ≡ true) → less (keyOf l x) (keyOf l r) ≡ true
+        go (List·Memᴰ·head e) a rest = subst (λ r. less (keyOf l x) (keyOf l r) ≡ true) (sym e) a
+        go (List·Memᴰ·tail m) a rest = less-trans (keyOf l x) (keyOf l y) (keyOf l r) a (rest m)
+
+    one-row : (counts before : List ℕ) (rows : List (List ℕ)) → ((r : List ℕ) → List·Memᴰ r rows → length r ≡ size) → Rising counts before rows
+        → (r r′ : List ℕ) → List·Memᴰ r rows → List·Memᴰ r′ rows → keyOf l r ≡ keyOf l r′ → r ≡ r′
+    one-row counts before [] sizes h r r′ m m′ e = absurd (List·Memᴰ·not-nil m)
+    one-row counts before (x ∷ rows) sizes h r r′ m m′ e = go m m′ (one-row counts (keyOf l x) rows (λ r m. sizes r (List·Memᴰ·tail m)) (h .1) r r′)
+      where
+        above-x : (y : List ℕ) → List·Memᴰ y rows → keyOf l x ≡ keyOf l y → ⊥
+        above-x y m e = false≢true (sym (less-self (keyOf l x)) ∙ ap (less (keyOf l x)) e
+            ∙ later-above counts x rows (sizes x (List·Memᴰ·head refl)) (λ r m. sizes r (List·Memᴰ·tail m)) (h .1) y m)
+
+        go : List·Memᴰ r (x ∷ rows) → List·Memᴰ r′ (x ∷ rows) → (List·Memᴰ r rows → List·Memᴰ r′ rows → keyOf l r ≡ keyOf l r′ → r ≡ r′) → r ≡ r′
+        go (List·Memᴰ·head a) (List·Memᴰ·head b) rest = a ∙ sym b
+        go (List·Memᴰ·head a) (List·Memᴰ·tail b) rest = absurd (above-x r′ b (ap (keyOf l) (sym a) ∙ e))
+        go (List·Memᴰ·tail a) (List·Memᴰ·head b) rest = absurd (above-x r a (ap (keyOf l) (sym b) ∙ sym e))
+        go (List·Memᴰ·tail a) (List·Memᴰ·tail b) rest = rest a b e
+
+  counts-within : (b : List ℕ) → headFault l b ≡ Sound → T (within (countsIn l b) (l .limits))
+  unfolding headFault
+  counts-within b e =
+      let (p₁, e₁) = passed (ltb (length b) 4 || not (eqb (lengthIn b + 2) (length b))) Length _ refl e in
+      let (p₂, e₂) = passed (not (same (kindIn b) (l .kind))) Kind _ refl e₁ in
+      let (p₃, e₃) = passed (ltb (length b) (headSize l) || not (eqb ((length b - headSize l) % rowSize l) 0)) Cut _ refl e₂ in
+      let (p₄, e₄) = passed (not (within (countsIn l b) (l .limits)) || ltb (l .rowLimit) (rowCount l b)) Limit Sound refl e₃ in
+      subst T (sym (not-false (within (countsIn l b) (l .limits)) (or-false-left (not (within (countsIn l b) (l .limits))) (ltb (l .rowLimit) (rowCount l b)) p₄))) tt
+
+module _ (l : Layout) (b : List ℕ) (e : fault l b ≡ Sound) where
+  parts : (headFault l b ≡ Sound) × (rowsFault l (countsIn l b) 0 [] (rowsIn l b) ≡ Sound)
+  unfolding fault
+  parts = both (headFault l b) (rowsFault l (countsIn l b) 0 [] (rowsIn l b)) e
+
+  rising : Rising l (countsIn l b) [] (rowsIn l b)
+  rising = rows-rising l (countsIn l b) 0 [] (rowsIn l b) (parts .1)
+
+  pub row-length : (r : List ℕ) → List·Memᴰ r (rowsIn l b) → length r ≡ length (l .fieldSizes)
+  row-length = rows-length (l .fieldSizes) (rowCount l b) (drop (headSize l) b)
+
+  -- "a code or state" is below its count
+  pub field-below : (r : List ℕ) → List·Memᴰ r (rowsIn l b) → (j : ℕ) → j < length (l .fieldSizes) → j < length (l .below) → getD r j 0 < getD (countsIn l b) (getD (l .below) j 0) 0
+  field-below r m j h g = below-at (countsIn l b) r (l .below) (fields-below l (countsIn l b) [] (rowsIn l b) rising r m) j (subst (λ n. j < n) (sym (row-length r m)) h) g
+
+  -- a count is at least 1 and at most its limit
+  pub count-within : (j : ℕ) → j < length (l .countSizes) → j < length (l .limits) → (1 ≤ getD (countsIn l b) j 0) × (getD (countsIn l b) j 0 ≤ getD (l .limits) j 0)
+  count-within j h g = within-at (countsIn l b) (l .limits) (counts-within l b (parts .0)) j (subst (λ n. j < n) (sym (length-numbers (l .countSizes) (drop 4 b))) h) g
+
+  -- "Keys rise strictly": no key twice
+  pub one-key : (r r′ : List ℕ) → List·Memᴰ r (rowsIn l b) → List·Memᴰ r′ (rowsIn l b) → ((j : ℕ) → j < l .keySize → getD r j 0 ≡ getD r′ j 0) → r ≡ r′
+  one-key r r′ m m′ same = one-row l (length (l .fieldSizes)) (countsIn l b) [] (rowsIn l b) row-length rising r r′ m m′
+      (ext-getD 0 (keyOf l r) (keyOf l r′) (key-length l (length (l .fieldSizes)) r r′ (row-length r m) (row-length r′ m′))
+      λ j h. let h′ : j < l .keySize = omega (arith, length-take (l .keySize) r) in getD-take (l .keySize) r j 0 h′ ∙ same j h′ ∙ sym (getD-take (l .keySize) r′ j 0 h′))
