@@ -18,11 +18,11 @@ use Rattle.pairs.specs.Scans.{if_then_else_, all, left}
 use Rattle.pairs.specs.Sets.{pairPlace, contextOf, specificationOf}
 use Rattle.pairs.proofs.Scans.{imp-yes, all-yes, any-yes, yes-any}
 use Rattle.pairs.proofs.Sets.{pair-context, pair-specification}
+use Rattle.pairs.proofs.Lists.{left-mem, mem-left}
 use Rattle.records.specs.Tables.{Skid as Tables, cState, cI, cNext, rowLetter, nextAt}
 use Rattle.records.specs.Continues.{continuesOn, continues}
 use Rattle.records.specs.Meaning.{NextTable, Legal, skid, tableStep}
 use Rattle.records.proofs.Rows.{has-there, action, row-context}
-use Rattle.records.proofs.Places.{left-mem, mem-left}
 use Rattle.fit.specs.Triples.{has, triples}
 use Rattle.fit.specs.Verdict.{blocks}
 use Rattle.fit.proofs.Sweep.{Held}
@@ -59,14 +59,14 @@ module _ (k : Tables) (asked : ℕ → ℕ → Bool) (states : ℕ) (next : List
     pub stuck : ¬ Goes a d i
 
   abbrev on : ℕ → ℕ → ℕ → Bool
-  on d a i = continuesOn k (has k states next d) a i
+  on d a i = continuesOn k (has k next d) a i
 
   module _ (legal : Legal k) where
     goes-law : (a c d : ℕ) → c < k .nC → (i : skid k asked .In) → T (on d a (i .0)) ↔ Goes a d i
     unfolding continuesOn
     goes-law a c d hc i = (
       λ t. let (r, m, t₁) = any-yes onRow (k .context) t in
-          let (t₂, t₃) = and-yes (eqb (cState r) a && eqb (cI r) (i .0)) (has k states next d (rowLetter k r)) t₁ in
+          let (t₂, t₃) = and-yes (eqb (cState r) a && eqb (cI r) (i .0)) (has k next d (rowLetter k r)) t₁ in
           let (t₄, t₅) = and-yes (eqb (cState r) a) (eqb (cI r) (i .0)) t₂ in (
             action k legal asked r m,
             same-code {a = (cI r, legal .context-rows r m .i-below)} {b = i} (eqb→eq (cI r) (i .0) t₅),
@@ -77,14 +77,14 @@ module _ (k : Tables) (asked : ℕ → ℕ → Bool) (states : ℕ) (next : List
           let (a′, ea) = known (skid k asked .ctx a x) ha in
           let (d′, ed) = known (tableStep k asked next d (letter (skid k asked) x)) hd in
           let j = joint-row k asked states next a c d x a′ d′ hc ea ed in
-          let (t₁, t₂) = and-yes (eqb (cState (j .row)) (contextOf (k .nC) (pairPlace (k .nC) a c))) (has k states next d (rowLetter k (j .row))) (j .joint) in
+          let (t₁, t₂) = and-yes (eqb (cState (j .row)) (contextOf (k .nC) (pairPlace (k .nC) a c))) (has k next d (rowLetter k (j .row))) (j .joint) in
           yes-any onRow (k .context) (j .row) (j .is-row)
-          (yes-and (eqb (cState (j .row)) a && eqb (cI (j .row)) (i .0)) (has k states next d (rowLetter k (j .row)))
+          (yes-and (eqb (cState (j .row)) a && eqb (cI (j .row)) (i .0)) (has k next d (rowLetter k (j .row)))
           (yes-and (eqb (cState (j .row)) a) (eqb (cI (j .row)) (i .0)) (rw (pair-context (k .nC) a c hc) at t₁) (same-yes (j .same-i ∙ ap (λ b. b .0) e))) t₂),
     )
       where
         onRow : List ℕ → Bool
-        onRow r = eqb (cState r) a && eqb (cI r) (i .0) && has k states next d (rowLetter k r)
+        onRow r = eqb (cState r) a && eqb (cI r) (i .0) && has k next d (rowLetter k r)
 
     goes-or-stuck : (a c d : ℕ) → c < k .nC → (i : skid k asked .In) → Goes a d i ⊎ (¬ Goes a d i)
     goes-or-stuck a c d hc i = ⊎-elim (λ t. inl (goes-law a c d hc i .0 t)) (λ f. inr (λ g. f (goes-law a c d hc i .1 g))) (kept-or-not (on d a (i .0)))
@@ -95,7 +95,7 @@ module _ (k : Tables) (asked : ℕ → ℕ → Bool) (states : ℕ) (next : List
     pub blocks-law : (sets : List ℕ) → T (blocks k states next asked sets) ↔ Blocked (Held k states sets)
     unfolding blocks continues
     blocks-law sets = (
-      λ t. let (a, c, d, h, t₁) = any-triple k legal states next sets (λ s p. not (continues k (has k states next s) asked p)) .0 t in
+      λ t. let (a, c, d, h, t₁) = any-triple k legal states next sets (λ s p. not (continues k (has k next s) asked p)) .0 t in
           let (i, mi, t₂) = not-all (onInput d (pairPlace (k .nC) a c)) (left 0 (k .nI)) t₁ in
           let (want, stuck) = not-imp (asked (specificationOf (k .nC) (pairPlace (k .nC) a c)) i) (on d (contextOf (k .nC) (pairPlace (k .nC) a c)) i) t₂ in
           record {
@@ -108,12 +108,12 @@ module _ (k : Tables) (asked : ℕ → ℕ → Bool) (states : ℕ) (next : List
             stuck = λ g. stuck (subst (λ a. T (on d a i)) (sym (pair-context (k .nC) a c (h .1 .1))) (goes-law a c d (h .1 .1) (i, mem-left (k .nI) i mi) .1 g));
           },
       λ b. let hc : b .c < k .nC = b .from .1 .1 in
-          any-triple k legal states next sets (λ s p. not (continues k (has k states next s) asked p)) .1 (
+          any-triple k legal states next sets (λ s p. not (continues k (has k next s) asked p)) .1 (
             b .a,
             b .c,
             b .d,
             b .from,
-            not-T (continues k (has k states next (b .d)) asked (pairPlace (k .nC) (b .a) (b .c))) (λ t. b .stuck (goes-law (b .a) (b .c) (b .d) hc (b .i) .0
+            not-T (continues k (has k next (b .d)) asked (pairPlace (k .nC) (b .a) (b .c))) (λ t. b .stuck (goes-law (b .a) (b .c) (b .d) hc (b .i) .0
                 (subst (λ a. T (on (b .d) a (b .i .0))) (pair-context (k .nC) (b .a) (b .c) hc)
                 (imp-yes (asked (specificationOf (k .nC) (pairPlace (k .nC) (b .a) (b .c))) (b .i .0)) (on (b .d) (contextOf (k .nC) (pairPlace (k .nC) (b .a) (b .c))) (b .i .0))
                 (all-yes (onInput (b .d) (pairPlace (k .nC) (b .a) (b .c))) (left 0 (k .nI)) t (b .i .0) (left-mem (k .nI) (b .i .0) (b .i .1)))

@@ -11,9 +11,10 @@ use lib.ListN.{getD}
 use Rattle.pairs.specs.Scans.{if_then_else_, any, left}
 use Rattle.pairs.specs.Sets.{member, pairPlace, contextOf, specificationOf}
 use Rattle.pairs.proofs.Scans.{both-yes, yes-both, any-yes, yes-any}
+use Rattle.pairs.proofs.Lists.{left-mem, mem-left}
 use Rattle.records.specs.Tables.{Skid as Tables, pairs}
 use Rattle.records.specs.Meaning.{Legal}
-use Rattle.records.proofs.Places.{left-mem, mem-left, pair-listed, at-pair}
+use Rattle.records.proofs.Places.{pair-listed, at-pair}
 use Rattle.fit.specs.Verdict.{anyTriple}
 use Rattle.fit.proofs.Sweep.{Held}
 

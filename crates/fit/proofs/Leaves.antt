@@ -45,14 +45,14 @@ module _ (k : Tables) (asked : ℕ → ℕ → Bool) (states : ℕ) (next : List
     pub no-row : skid k asked .spc c (skid k asked .face x) ≡ none
 
   abbrev lacks : ℕ → ℕ → List ℕ → Bool
-  lacks s p r = if jointRow k states next s p r then isNone (rowSpecNext k states next p r) else false
+  lacks s p r = if jointRow k next s p r then isNone (rowSpecNext k p r) else false
 
   pub leaves-law : Legal k → (sets : List ℕ) → T (leaves k states next sets) ↔ Leaving (Held k states sets)
   unfolding leaves
   leaves-law legal sets = (
     λ t. let (a, c, d, h, t₁) = any-triple k legal states next sets (λ s p. any (lacks s p) (k .context)) .0 t in
         let (r, m, t₂) = any-yes (lacks d (pairPlace (k .nC) a c)) (k .context) t₁ in
-        let (j, t₃) = both-yes (jointRow k states next d (pairPlace (k .nC) a c) r) (isNone (rowSpecNext k states next (pairPlace (k .nC) a c) r)) t₂ in
+        let (j, t₃) = both-yes (jointRow k next d (pairPlace (k .nC) a c) r) (isNone (rowSpecNext k (pairPlace (k .nC) a c) r)) t₂ in
         let (ctx, ctl) = row-joint k asked states next legal d (pairPlace (k .nC) a c) r m j in
         record {
           a = a;
@@ -74,8 +74,8 @@ module _ (k : Tables) (asked : ℕ → ℕ → Bool) (states : ℕ) (next : List
           f .d,
           f .from,
           yes-any (lacks (f .d) (pairPlace (k .nC) (f .a) (f .c))) (k .context) (j .row) (j .is-row)
-              (yes-both (jointRow k states next (f .d) (pairPlace (k .nC) (f .a) (f .c)) (j .row)) (isNone (rowSpecNext k states next (pairPlace (k .nC) (f .a) (f .c)) (j .row))) (j .joint)
-              (none-yes (rowSpecNext k states next (pairPlace (k .nC) (f .a) (f .c)) (j .row)) .1 (rw (pair-specification (k .nC) (f .a) (f .c) hc, j .same-i, j .same-o) (f .no-row)))),
+              (yes-both (jointRow k next (f .d) (pairPlace (k .nC) (f .a) (f .c)) (j .row)) (isNone (rowSpecNext k (pairPlace (k .nC) (f .a) (f .c)) (j .row))) (j .joint)
+              (none-yes (rowSpecNext k (pairPlace (k .nC) (f .a) (f .c)) (j .row)) .1 (rw (pair-specification (k .nC) (f .a) (f .c) hc, j .same-i, j .same-o) (f .no-row)))),
         ),
   )
 

@@ -12,12 +12,11 @@ use borrow.Author.Tests.{eqb-true}
 use Rattle.words.proofs.Count.{count, count-length, count-less, find}
 use Rattle.pairs.specs.Scans.{if_then_else_, left, same}
 use Rattle.pairs.specs.Sets.{member, pairPlace}
-use Rattle.pairs.proofs.Lists.{length-left, part-below}
+use Rattle.pairs.proofs.Lists.{length-left, part-below, left-mem}
 use Rattle.pairs.proofs.Sets.{pair-context, pair-specification}
 use Rattle.records.specs.Tables.{Skid as Tables}
 use Rattle.records.specs.Meaning.{NextTable, Legal}
 use Rattle.records.specs.Continues.{everyInput}
-use Rattle.records.proofs.Places.{left-mem}
 use Rattle.fit.specs.Triples.{sweep, grown, startSets, triples}
 use Rattle.fit.proofs.Sweep.{Held, Further, sweep-adds, sweep-law, sweep-length, sweep-fixed}
 use Rattle.fit.proofs.Swept.{swept, swept-length, swept-reached, swept-start, Reached, along}

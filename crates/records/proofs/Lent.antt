@@ -6,9 +6,6 @@ use mathlib.Core.List.{List, [], _∷_, _++_, flatMap}
 use lib.ListN.{replicate}
 use Rattle.pairs.specs.Scans.{same, less, total}
 use Rattle.pairs.specs.Lent.{filled}
-use Rattle.records.specs.declared.Reply.{Reply}
-use Rattle.records.specs.declared.Counts.{Counts}
-use Rattle.records.specs.declared.Reading.{Reading}
 use Rattle.records.specs.Limits.{stateLimit, nextNumbers}
 use Rattle.records.specs.Layouts.{contextLayout, specificationLayout, controllerLayout}
 use Rattle.records.specs.Bytes.{little, bytesOf, numbers, written}

@@ -2,11 +2,11 @@
 -- within it 5, 6, 7".
 -- Assumes nothing.
 use Prim.Native.Nat.{ℕ, suc, _+_, _-_, _%_}
-use mathlib.Core.Bool.{Bool, true, false, not, _&&_, _||_}
+use mathlib.Core.Bool.{Bool, true, not, _&&_, _||_}
 use mathlib.Core.List.{List, [], _∷_}
 use lib.Dec.{leb, ltb, eqb}
 use lib.ListN.{length, getD, take}
-use Rattle.pairs.specs.Scans.{if_then_else_, same, less, total}
+use Rattle.pairs.specs.Scans.{if_then_else_, same, less}
 use Rattle.records.specs.declared.Fault.{Fault}
 use Rattle.records.specs.declared.Fault.the-variants.{Sound, Length, Kind, Cut, Limit, Code, EqualKey, LowerKey}
 use Rattle.records.specs.Layouts.{Layout}

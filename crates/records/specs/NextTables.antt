@@ -1,8 +1,7 @@
 -- Document 01: "next states at place state·U·V + u·V + v, 65535 where absent". A next table of so many states with m·n steps each, of the rows
 -- (state, x, y, next): a controller by U and V, a specification by I and O.
 -- Assumes nothing.
-use Prim.Native.Nat.{ℕ, zero, suc, _+_, _*_, _/_, _%_}
-use mathlib.Core.Bool.{Bool}
+use Prim.Native.Nat.{ℕ, suc, _+_, _*_, _/_, _%_}
 use mathlib.Core.Option.{Option, none, some}
 use mathlib.Core.List.{List, [], _∷_, foldl}
 use lib.Dec.{eqb}

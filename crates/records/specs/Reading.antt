@@ -1,7 +1,6 @@
 -- Document 01, "Reading: the record, then 10 for a controller".
 -- Assumes nothing.
 use Prim.Native.Nat.{ℕ}
-use mathlib.Core.Bool.{Bool}
 use mathlib.Core.List.{List}
 use lib.Dec.{leb}
 use lib.ListN.{length, getD}
@@ -11,7 +10,7 @@ use Rattle.records.specs.declared.Reply.{Reply}
 use Rattle.records.specs.declared.Counts.{Counts}
 use Rattle.records.specs.declared.Reading.{Reading}
 use Rattle.records.specs.Limits.{nextNumbers}
-use Rattle.records.specs.Layouts.{Layout, contextLayout, specificationLayout, controllerLayout}
+use Rattle.records.specs.Layouts.{contextLayout, specificationLayout, controllerLayout}
 use Rattle.records.specs.Records.{countsIn, rowCount}
 use Rattle.records.specs.Replies.{success, refuses, unless, _orElse_, recordRefusal}
 use Rattle.records.specs.Tables.{controllerTable}

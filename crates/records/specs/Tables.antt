@@ -1,10 +1,8 @@
 -- Document 01, "Signals and tables": the two tables of a skid, as they were read.
 -- Assumes nothing.
 use Prim.Native.Nat.{ℕ, _+_, _*_, _/_, _%_}
-use mathlib.Core.Bool.{Bool, _&&_}
 use mathlib.Core.Option.{Option}
 use mathlib.Core.List.{List}
-use lib.Dec.{eqb}
 use lib.ListN.{getD}
 use Rattle.pairs.specs.Scans.{left}
 use Rattle.records.specs.Limits.{absent}

@@ -1,12 +1,10 @@
 -- Document 01, the program `solve`: standard input to printed bytes; and `fit_table` in the same style.
 -- Assumes nothing.
 use Prim.Native.Nat.{ℕ}
-use mathlib.Core.Bool.{Bool}
-use mathlib.Core.List.{List, [], _∷_}
+use mathlib.Core.List.{List}
 use lib.Dec.{ltb, eqb}
 use lib.ListN.{length, getD, drop, replicate}
 use Rattle.pairs.specs.Scans.{if_then_else_}
-use Rattle.records.specs.declared.Reply.{Reply}
 use Rattle.records.specs.Limits.{setNumbers, nextNumbers}
 use Rattle.records.specs.Layouts.{contextLayout}
 use Rattle.records.specs.Records.{countsIn}

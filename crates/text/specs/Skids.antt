@@ -1,8 +1,7 @@
 -- Document 01, "Skids to test on": what `solve` prints, computed; and all that document 01 says of a skid.
 -- Assumes nothing.
-use Prim.Native.Nat.{ℕ}
 use mathlib.Core.Bool.{Bool, _&&_}
-use mathlib.Core.List.{List, [], _∷_, _++_, flatMap}
+use mathlib.Core.List.{_∷_, _++_, flatMap}
 use Rattle.pairs.specs.Scans.{all, any, first, count, left, find, same, less, total}
 use Rattle.pairs.specs.Sets.{member, join, add, pairLimit}
 use Rattle.pairs.specs.Lent.{filled, encoded, encodedSets}
