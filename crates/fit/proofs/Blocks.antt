@@ -9,7 +9,7 @@ use mathlib.Core.List.{List, [], _∷_, List·Memᴰ, List·Memᴰ·head, List·
 use Prim.Native.Nat.{ℕ, _<_}
 use lib.Dec.{T, T-not, not-T, eqb, eqb→eq}
 use mir.Facts.{and-yes, yes-and}
-use Rattle.words.specs.Skid.{letter}
+use Rattle.words.specs.System.{letter}
 use Rattle.words.specs.Fit.{Joins}
 use Rattle.words.proofs.Words.{known, is-some}
 use Rattle.words.proofs.Codes.{same-code}
@@ -19,9 +19,9 @@ use Rattle.pairs.specs.Sets.{pairPlace, contextOf, specificationOf}
 use Rattle.pairs.proofs.Scans.{imp-yes, all-yes, any-yes, yes-any}
 use Rattle.pairs.proofs.Sets.{pair-context, pair-specification}
 use Rattle.pairs.proofs.Lists.{left-mem, mem-left}
-use Rattle.records.specs.Tables.{Skid as Tables, cState, cI, cNext, rowLetter, nextAt}
+use Rattle.records.specs.Tables.{Skid, rowState, rowI, rowNext, rowLetter, nextAt}
 use Rattle.records.specs.Continues.{continuesOn, continues}
-use Rattle.records.specs.Meaning.{NextTable, Legal, skid, tableStep}
+use Rattle.records.specs.Meaning.{NextTable, Legal, system, tableStep}
 use Rattle.records.proofs.Rows.{has-there, action, row-context}
 use Rattle.fit.specs.Triples.{has, triples}
 use Rattle.fit.specs.Verdict.{blocks}
@@ -43,50 +43,50 @@ not-all {E} p (y ∷ l) t = go (p y) refl (not-all p l) t
     go true e rest t = let (x, m, h) = rest t in (x, List·Memᴰ·tail m, h)
     go false e rest t = (y, List·Memᴰ·head refl, subst (λ b. T (not b)) (sym e) tt)
 
-module _ (k : Tables) (asked : ℕ → ℕ → Bool) (states : ℕ) (next : List ℕ) where
+module _ (k : Skid) (asked : ℕ → ℕ → Bool) (states : ℕ) (next : List ℕ) where
   -- on i the context from a and the controller from d have a joint step
-  abbrev pub Goes : ℕ → ℕ → skid k asked .In → Type 0
-  Goes a d i = (x : skid k asked .Act) × (skid k asked .inp x ≡ i) × IsSome (skid k asked .ctx a x) × IsSome (tableStep k asked next d (letter (skid k asked) x))
+  abbrev pub Goes : ℕ → ℕ → system k asked .Input → Type 0
+  Goes a d i = (x : system k asked .Step) × (system k asked .input x ≡ i) × IsSome (system k asked .ctx a x) × IsSome (tableStep k asked next d (letter (system k asked) x))
 
   -- a triple of P has an asked i without joint step
   pub record Blocked (P : ℕ → ℕ → ℕ → Type 0) : Type 0 where
     pub a : ℕ
     pub c : ℕ
     pub d : ℕ
-    pub i : skid k asked .In
+    pub i : system k asked .Input
     pub from : P a c d
-    pub wanted : skid k asked .asked c i
+    pub wanted : system k asked .asked c i
     pub stuck : ¬ Goes a d i
 
   abbrev on : ℕ → ℕ → ℕ → Bool
   on d a i = continuesOn k (has k next d) a i
 
   module _ (legal : Legal k) where
-    goes-law : (a c d : ℕ) → c < k .nC → (i : skid k asked .In) → T (on d a (i .0)) ↔ Goes a d i
+    goes-law : (a c d : ℕ) → c < k .nC → (i : system k asked .Input) → T (on d a (i .0)) ↔ Goes a d i
     unfolding continuesOn
     goes-law a c d hc i = (
       λ t. let (r, m, t₁) = any-yes onRow (k .context) t in
-          let (t₂, t₃) = and-yes (eqb (cState r) a && eqb (cI r) (i .0)) (has k next d (rowLetter k r)) t₁ in
-          let (t₄, t₅) = and-yes (eqb (cState r) a) (eqb (cI r) (i .0)) t₂ in (
+          let (t₂, t₃) = and-yes (eqb (rowState r) a && eqb (rowI r) (i .0)) (has k next d (rowLetter k r)) t₁ in
+          let (t₄, t₅) = and-yes (eqb (rowState r) a) (eqb (rowI r) (i .0)) t₂ in (
             action k legal asked r m,
-            same-code {a = (cI r, legal .context-rows r m .i-below)} {b = i} (eqb→eq (cI r) (i .0) t₅),
-            is-some {t = cNext r} (row-context k legal asked a r m (eqb→eq (cState r) a t₄)),
+            same-code {a = (rowI r, legal .context-rows r m .i-below)} {b = i} (eqb→eq (rowI r) (i .0) t₅),
+            is-some {t = rowNext r} (row-context k legal asked a r m (eqb→eq (rowState r) a t₄)),
             is-some {t = nextAt k next d (rowLetter k r)} (has-there (nextAt k next d (rowLetter k r)) t₃),
           ),
       λ g. let (x, e, ha, hd) = g in
-          let (a′, ea) = known (skid k asked .ctx a x) ha in
-          let (d′, ed) = known (tableStep k asked next d (letter (skid k asked) x)) hd in
+          let (a′, ea) = known (system k asked .ctx a x) ha in
+          let (d′, ed) = known (tableStep k asked next d (letter (system k asked) x)) hd in
           let j = joint-row k asked states next a c d x a′ d′ hc ea ed in
-          let (t₁, t₂) = and-yes (eqb (cState (j .row)) (contextOf (k .nC) (pairPlace (k .nC) a c))) (has k next d (rowLetter k (j .row))) (j .joint) in
+          let (t₁, t₂) = and-yes (eqb (rowState (j .row)) (contextOf (k .nC) (pairPlace (k .nC) a c))) (has k next d (rowLetter k (j .row))) (j .joint) in
           yes-any onRow (k .context) (j .row) (j .is-row)
-          (yes-and (eqb (cState (j .row)) a && eqb (cI (j .row)) (i .0)) (has k next d (rowLetter k (j .row)))
-          (yes-and (eqb (cState (j .row)) a) (eqb (cI (j .row)) (i .0)) (rw (pair-context (k .nC) a c hc) at t₁) (same-yes (j .same-i ∙ ap (λ b. b .0) e))) t₂),
+          (yes-and (eqb (rowState (j .row)) a && eqb (rowI (j .row)) (i .0)) (has k next d (rowLetter k (j .row)))
+          (yes-and (eqb (rowState (j .row)) a) (eqb (rowI (j .row)) (i .0)) (rw (pair-context (k .nC) a c hc) at t₁) (same-yes (j .same-i ∙ ap (λ b. b .0) e))) t₂),
     )
       where
         onRow : List ℕ → Bool
-        onRow r = eqb (cState r) a && eqb (cI r) (i .0) && has k next d (rowLetter k r)
+        onRow r = eqb (rowState r) a && eqb (rowI r) (i .0) && has k next d (rowLetter k r)
 
-    goes-or-stuck : (a c d : ℕ) → c < k .nC → (i : skid k asked .In) → Goes a d i ⊎ (¬ Goes a d i)
+    goes-or-stuck : (a c d : ℕ) → c < k .nC → (i : system k asked .Input) → Goes a d i ⊎ (¬ Goes a d i)
     goes-or-stuck a c d hc i = ⊎-elim (λ t. inl (goes-law a c d hc i .0 t)) (λ f. inr (λ g. f (goes-law a c d hc i .1 g))) (kept-or-not (on d a (i .0)))
 
     abbrev onInput : ℕ → ℕ → ℕ → Bool
@@ -122,7 +122,7 @@ module _ (k : Tables) (asked : ℕ → ℕ → Bool) (states : ℕ) (next : List
     )
 
     -- the controller joins, as the theory has it, exactly if the check does not find that it blocks
-    pub joins-law : NextTable states next → Joins (skid k asked) (tableStep k asked next) 0 ↔ (¬ T (blocks k states next asked (triples k states next)))
+    pub joins-law : NextTable states next → Joins (system k asked) (tableStep k asked next) 0 ↔ (¬ T (blocks k states next asked (triples k states next)))
     joins-law table = (
       λ f t. let b = blocks-law (triples k states next) .0 t in
           ∥∥₁-elim (f (b .a) (b .c) (b .d) (triples-exactly k asked legal states next table (b .a) (b .c) (b .d) .0 (b .from)) (b .i) (b .wanted)) ⊥-prop (b .stuck),

@@ -12,13 +12,13 @@ use Rattle.pairs.specs.Scans.{if_then_else_, any, left}
 use Rattle.pairs.specs.Sets.{member, pairPlace, contextOf, specificationOf}
 use Rattle.pairs.proofs.Scans.{both-yes, yes-both, any-yes, yes-any}
 use Rattle.pairs.proofs.Lists.{left-mem, mem-left}
-use Rattle.records.specs.Tables.{Skid as Tables, pairs}
+use Rattle.records.specs.Tables.{Skid, pairs}
 use Rattle.records.specs.Meaning.{Legal}
 use Rattle.records.proofs.Places.{pair-listed, at-pair}
 use Rattle.fit.specs.Verdict.{anyTriple}
 use Rattle.fit.proofs.Sweep.{Held}
 
-module _ (k : Tables) (legal : Legal k) (states : ℕ) (next sets : List ℕ) (test : ℕ → ℕ → Bool) where
+module _ (k : Skid) (legal : Legal k) (states : ℕ) (next sets : List ℕ) (test : ℕ → ℕ → Bool) where
   abbrev ofPair : ℕ → ℕ → Bool
   ofPair s p = if member p (getD sets s 0) then test s p else false
 

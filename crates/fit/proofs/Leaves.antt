@@ -7,17 +7,17 @@ use mathlib.Core.Option.{Option, none, some, IsSome, Option·some-ne-none}
 use mathlib.Core.List.{List}
 use Prim.Native.Nat.{ℕ, _<_}
 use lib.Dec.{T}
-use Rattle.words.specs.Skid.{letter}
+use Rattle.words.specs.System.{letter}
 use Rattle.words.specs.Fit.{Stays}
 use Rattle.words.proofs.Words.{known, is-some, not-both, dec-some}
 use Rattle.pairs.specs.Scans.{if_then_else_, any}
 use Rattle.pairs.specs.Sets.{pairPlace}
 use Rattle.pairs.proofs.Scans.{both-yes, yes-both, any-yes, yes-any}
 use Rattle.pairs.proofs.Sets.{pair-context, pair-specification}
-use Rattle.records.specs.Tables.{Skid as Tables, cI, cO, cNext, specNext}
-use Rattle.records.specs.Meaning.{NextTable, Legal, skid, tableStep}
+use Rattle.records.specs.Tables.{Skid, rowI, rowO, rowNext, specNext, rowSpecNext}
+use Rattle.records.specs.Meaning.{NextTable, Legal, system, tableStep}
 use Rattle.records.proofs.Rows.{action}
-use Rattle.fit.specs.Triples.{jointRow, rowSpecNext, triples}
+use Rattle.fit.specs.Triples.{jointRow, triples}
 use Rattle.fit.specs.Verdict.{isNone, leaves}
 use Rattle.fit.proofs.Sweep.{Held}
 use Rattle.fit.proofs.Rows.{row-joint, joint-row}
@@ -32,17 +32,17 @@ no-some : {S : Type 0} (o : Option S) → ¬ IsSome o → o ≡ none
 no-some none h = refl
 no-some (some x) h = absurd (h tt)
 
-module _ (k : Tables) (asked : ℕ → ℕ → Bool) (states : ℕ) (next : List ℕ) where
+module _ (k : Skid) (asked : ℕ → ℕ → Bool) (states : ℕ) (next : List ℕ) where
   -- from a triple of P a joint step has no specification row
   pub record Leaving (P : ℕ → ℕ → ℕ → Type 0) : Type 0 where
     pub a : ℕ
     pub c : ℕ
     pub d : ℕ
-    pub x : skid k asked .Act
+    pub x : system k asked .Step
     pub from : P a c d
-    pub context : IsSome (skid k asked .ctx a x)
-    pub controller : IsSome (tableStep k asked next d (letter (skid k asked) x))
-    pub no-row : skid k asked .spc c (skid k asked .face x) ≡ none
+    pub context : IsSome (system k asked .ctx a x)
+    pub controller : IsSome (tableStep k asked next d (letter (system k asked) x))
+    pub no-row : system k asked .spc c (system k asked .outside x) ≡ none
 
   abbrev lacks : ℕ → ℕ → List ℕ → Bool
   lacks s p r = if jointRow k next s p r then isNone (rowSpecNext k p r) else false
@@ -60,12 +60,12 @@ module _ (k : Tables) (asked : ℕ → ℕ → Bool) (states : ℕ) (next : List
           d = d;
           x = action k legal asked r m;
           from = h;
-          context = is-some (subst (λ a. skid k asked .ctx a (action k legal asked r m) ≡ some (cNext r)) (pair-context (k .nC) a c (h .1 .1)) ctx);
+          context = is-some (subst (λ a. system k asked .ctx a (action k legal asked r m) ≡ some (rowNext r)) (pair-context (k .nC) a c (h .1 .1)) ctx);
           controller = is-some ctl;
-          no-row = subst (λ c. specNext k c (cI r) (cO r) ≡ none) (pair-specification (k .nC) a c (h .1 .1)) (none-yes _ .0 t₃);
+          no-row = subst (λ c. specNext k c (rowI r) (rowO r) ≡ none) (pair-specification (k .nC) a c (h .1 .1)) (none-yes _ .0 t₃);
         },
-    λ f. let (a′, ea) = known (skid k asked .ctx (f .a) (f .x)) (f .context) in
-        let (d′, ed) = known (tableStep k asked next (f .d) (letter (skid k asked) (f .x))) (f .controller) in
+    λ f. let (a′, ea) = known (system k asked .ctx (f .a) (f .x)) (f .context) in
+        let (d′, ed) = known (tableStep k asked next (f .d) (letter (system k asked) (f .x))) (f .controller) in
         let hc : f .c < k .nC = f .from .1 .1 in
         let j = joint-row k asked states next (f .a) (f .c) (f .d) (f .x) a′ d′ hc ea ed in
         any-triple k legal states next sets (λ s p. any (lacks s p) (k .context)) .1 (
@@ -80,10 +80,10 @@ module _ (k : Tables) (asked : ℕ → ℕ → Bool) (states : ℕ) (next : List
   )
 
   -- the controller stays, as the theory has it, exactly if the check does not find that it leaves
-  pub stays-law : Legal k → NextTable states next → Stays (skid k asked) (tableStep k asked next) 0 ↔ (¬ T (leaves k states next (triples k states next)))
+  pub stays-law : Legal k → NextTable states next → Stays (system k asked) (tableStep k asked next) 0 ↔ (¬ T (leaves k states next (triples k states next)))
   stays-law legal table = (
     λ f t. let l = leaves-law legal (triples k states next) .0 t in
         not-both (f (l .a) (l .c) (l .d) (triples-exactly k asked legal states next table (l .a) (l .c) (l .d) .0 (l .from)) (l .x) (l .context) (l .controller)) (l .no-row),
-    λ h a c d t x ha hd. dec-some (skid k asked .spc c (skid k asked .face x)) (λ n. h (leaves-law legal (triples k states next) .1
+    λ h a c d t x ha hd. dec-some (system k asked .spc c (system k asked .outside x)) (λ n. h (leaves-law legal (triples k states next) .1
         (record { a = a; c = c; d = d; x = x; from = triples-exactly k asked legal states next table a c d .1 t; context = ha; controller = hd; no-row = no-some _ n }))),
   )

@@ -7,13 +7,14 @@ use lib.ListN.{replicate}
 use Rattle.pairs.specs.Scans.{same, less, total}
 use Rattle.pairs.specs.Sets.{pairLimit}
 use Rattle.records.specs.Limits.{stateLimit, setNumbers}
+use Rattle.pairs.specs.Lent.{setSize}
 use Rattle.records.specs.Layouts.{contextLayout, specificationLayout, controllerLayout}
 use Rattle.records.specs.Bytes.{little, numbers}
 use Rattle.records.specs.Records.{rowsOf}
-use Rattle.records.specs.Faults.{within, fieldsBelow, headFault, rowFault, rowsFault, fault}
+use Rattle.records.specs.Faults.{inLimits, fieldsBelow, headFault, rowFault, rowsFault, fault}
 use Rattle.records.specs.Replies.{refusal, unless, _orElse_, faultReply, recordRefusal}
-use Rattle.records.specs.Matching.{skidRefusal, codesAgree, lettersAgree, productFits, codesRefusal, lettersRefusal, productRefusal}
-use Rattle.fit.specs.Check.{checkRefusal, check, setsChecked}
+use Rattle.records.specs.Matching.{skidRefusal, outsideAgree, lettersAgree, productFits, outsideRefusal, lettersRefusal, productRefusal}
+use Rattle.fit.specs.Check.{checkRefusal, check}
 
 -- I=O=U=V=1; 5 context states with 13 specification states
 abbrev context : List ℕ
@@ -25,15 +26,15 @@ specification i o states = 0x05 ∷ 0 ∷ 0x53 ∷ 0x50 ∷ i ∷ o ∷ states �
 abbrev controller : ℕ → ℕ → List ℕ
 controller u v = 0x06 ∷ 0 ∷ 0x43 ∷ 0x54 ∷ u ∷ v ∷ 1 ∷ 0 ∷ []
 
-order : (check [] [] [] []
-    ∷ check context [] [] []
-    ∷ check context (specification 2 1 13) [] []
-    ∷ check context (specification 2 1 13) (controller 2 1) []
-    ∷ check context (specification 1 2 13) (controller 2 1) []
-    ∷ check context (specification 1 1 13) (controller 2 1) []
-    ∷ check context (specification 1 1 13) (controller 1 2) []
-    ∷ check context (specification 1 1 13) (controller 1 1) []
-    ∷ check context (specification 1 1 12) (controller 1 1) (replicate 511 0)
+order : (check [] [] [] [] .reply
+    ∷ check context [] [] [] .reply
+    ∷ check context (specification 2 1 13) [] [] .reply
+    ∷ check context (specification 2 1 13) (controller 2 1) [] .reply
+    ∷ check context (specification 1 2 13) (controller 2 1) [] .reply
+    ∷ check context (specification 1 1 13) (controller 2 1) [] .reply
+    ∷ check context (specification 1 1 13) (controller 1 2) [] .reply
+    ∷ check context (specification 1 1 13) (controller 1 1) [] .reply
+    ∷ check context (specification 1 1 12) (controller 1 1) (replicate 511 0) .reply
     ∷ []) ≡
     refusal 1 1 0 0
     ∷ refusal 1 2 0 0
@@ -45,10 +46,10 @@ order : (check [] [] [] []
     ∷ refusal 9 0 0 0
     ∷ refusal 10 0 0 0
     ∷ []
-unfolding same less total pairLimit stateLimit setNumbers contextLayout specificationLayout controllerLayout little numbers rowsOf within fieldsBelow headFault rowFault rowsFault fault unless _orElse_ faultReply recordRefusal skidRefusal codesAgree lettersAgree productFits codesRefusal lettersRefusal productRefusal checkRefusal check
+unfolding same less total pairLimit stateLimit setNumbers setSize contextLayout specificationLayout controllerLayout little numbers rowsOf inLimits fieldsBelow headFault rowFault rowsFault fault unless _orElse_ faultReply recordRefusal skidRefusal outsideAgree lettersAgree productFits outsideRefusal lettersRefusal productRefusal checkRefusal check
 order = refl
 
 -- a refused check writes nothing
-unwritten : setsChecked context (specification 1 1 13) (controller 1 1) (replicate 514 7) ≡ replicate 514 7
-unfolding same less total pairLimit stateLimit setNumbers contextLayout specificationLayout controllerLayout little numbers rowsOf within fieldsBelow headFault rowFault rowsFault fault unless _orElse_ faultReply recordRefusal skidRefusal codesAgree lettersAgree productFits codesRefusal lettersRefusal productRefusal checkRefusal setsChecked
+unwritten : check context (specification 1 1 13) (controller 1 1) (replicate 514 7) .sets ≡ replicate 514 7
+unfolding same less total pairLimit stateLimit setNumbers setSize contextLayout specificationLayout controllerLayout little numbers rowsOf inLimits fieldsBelow headFault rowFault rowsFault fault unless _orElse_ faultReply recordRefusal skidRefusal outsideAgree lettersAgree productFits outsideRefusal lettersRefusal productRefusal checkRefusal check
 unwritten = refl

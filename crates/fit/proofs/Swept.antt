@@ -14,28 +14,28 @@ use lib.Dec.{T}
 use lib.ListN.{length, getD, set, replicate, length-append, length-set, length-replicate, getD-replicate}
 use lib.Seq.{getD-set-same, getD-set-other}
 use Rattle.words.specs.Words.{run}
-use Rattle.words.specs.Skid.{letter, controllerWord, outsideWord}
+use Rattle.words.specs.System.{letter, controllerWord, outsideWord}
 use Rattle.words.specs.Fit.{Triple}
 use Rattle.words.proofs.Words.{is-some, first-step, run-cons}
 use Rattle.words.proofs.Fit.{triple-last}
 use Rattle.pairs.specs.Sets.{member, add, empty, pairPlace}
 use Rattle.pairs.proofs.Sets.{empty-set}
-use Rattle.records.specs.Tables.{Skid as Tables}
-use Rattle.records.specs.Meaning.{NextTable, Legal, skid, InSet, tableStep}
+use Rattle.records.specs.Tables.{Skid}
+use Rattle.records.specs.Meaning.{NextTable, Legal, system, InSet, tableStep}
 use Rattle.records.proofs.Places.{start-pair}
 use Rattle.fit.specs.Triples.{sweep, startSets}
 use Rattle.fit.proofs.Sweep.{Held, Further, sweep-law, sweep-length}
 
 -- n sweeps from the start
-module _ (k : Tables) (states : ℕ) (next : List ℕ) where
+module _ (k : Skid) (states : ℕ) (next : List ℕ) where
   abbrev pub swept : ℕ → List ℕ
   swept zero = startSets k states next
   swept (suc n) = sweep k states next (swept n)
 
-module _ (k : Tables) (asked : ℕ → ℕ → Bool) (next : List ℕ) where
+module _ (k : Skid) (asked : ℕ → ℕ → Bool) (next : List ℕ) where
   -- a combined word within the specification that the next table runs leads to this triple
   abbrev pub Reached : ℕ → ℕ → ℕ → Type 0
-  Reached = Triple (skid k asked) (tableStep k asked next) 0
+  Reached = Triple (system k asked) (tableStep k asked next) 0
 
   -- one of at most n steps does
   abbrev pub ReachedBy : ℕ → ℕ → ℕ → ℕ → Type 0
@@ -43,23 +43,23 @@ module _ (k : Tables) (asked : ℕ → ℕ → Bool) (next : List ℕ) where
 
   -- what holds along a combined word, where it goes on by a joint step
   module _ (P : ℕ → ℕ → ℕ → ℕ → Type 0) (on : (m a c d : ℕ) → Further k asked next (P m) a c d → P (suc m) a c d) where
-    pub along : (α : List (skid k asked .Act)) (m a c d a′ c′ d′ : ℕ) → P m a c d → run (skid k asked .ctx) a α ≡ some a′
-        → run (skid k asked .spc) c (outsideWord (skid k asked) α) ≡ some c′ → run (tableStep k asked next) d (controllerWord (skid k asked) α) ≡ some d′ → P (m + length α) a′ c′ d′
+    pub along : (α : List (system k asked .Step)) (m a c d a′ c′ d′ : ℕ) → P m a c d → run (system k asked .ctx) a α ≡ some a′
+        → run (system k asked .spc) c (outsideWord (system k asked) α) ≡ some c′ → run (tableStep k asked next) d (controllerWord (system k asked) α) ≡ some d′ → P (m + length α) a′ c′ d′
     along [] m a c d a′ c′ d′ h ea ec ed =
         let z : m ≡ m + 0 = omega arith in
         subst (λ m. P m a′ c′ d′) z (subst (λ a. P m a c′ d′) (Option·some-injective a a′ ea) (subst (λ c. P m a c d′) (Option·some-injective c c′ ec) (subst (λ d. P m a c d) (Option·some-injective d d′ ed) h)))
     along (x ∷ α) m a c d a′ c′ d′ h ea ec ed =
-        let (a₁, fa, _) = first-step (skid k asked .ctx) a x α (is-some ea) in
-        let (c₁, fc, _) = first-step (skid k asked .spc) c (skid k asked .face x) (outsideWord (skid k asked) α) (is-some ec) in
-        let (d₁, fd, _) = first-step (tableStep k asked next) d (letter (skid k asked) x) (controllerWord (skid k asked) α) (is-some ed) in
+        let (a₁, fa, _) = first-step (system k asked .ctx) a x α (is-some ea) in
+        let (c₁, fc, _) = first-step (system k asked .spc) c (system k asked .outside x) (outsideWord (system k asked) α) (is-some ec) in
+        let (d₁, fd, _) = first-step (tableStep k asked next) d (letter (system k asked) x) (controllerWord (system k asked) α) (is-some ed) in
         let z : suc m + length α ≡ m + suc (length α) = omega arith in
         subst (λ m. P m a′ c′ d′) z
         (along α (suc m) a₁ c₁ d₁ a′ c′ d′ (on m a₁ c₁ d₁ (record { a = a; c = c; d = d; x = x; from = h; context = fa; specification = fc; controller = fd }))
-        (sym (run-cons (skid k asked .ctx) {l = x} α fa) ∙ ea)
-        (sym (run-cons (skid k asked .spc) {l = skid k asked .face x} (outsideWord (skid k asked) α) fc) ∙ ec)
-        (sym (run-cons (tableStep k asked next) {l = letter (skid k asked) x} (controllerWord (skid k asked) α) fd) ∙ ed))
+        (sym (run-cons (system k asked .ctx) {l = x} α fa) ∙ ea)
+        (sym (run-cons (system k asked .spc) {l = system k asked .outside x} (outsideWord (system k asked) α) fc) ∙ ec)
+        (sym (run-cons (tableStep k asked next) {l = letter (system k asked) x} (controllerWord (system k asked) α) fd) ∙ ed))
 
-module _ (k : Tables) (asked : ℕ → ℕ → Bool) (legal : Legal k) (states : ℕ) (next : List ℕ) (table : NextTable states next) where
+module _ (k : Skid) (asked : ℕ → ℕ → Bool) (legal : Legal k) (states : ℕ) (next : List ℕ) (table : NextTable states next) where
   -- the start holds the triple (0, 0, 0) alone
   start-in : (a c d : ℕ) → Held k states (swept k states next 0) a c d ↔ ((a ≡ 0) × (c ≡ 0) × (d ≡ 0))
   unfolding startSets
@@ -98,7 +98,7 @@ module _ (k : Tables) (asked : ℕ → ℕ → Bool) (legal : Legal k) (states :
   swept-reached (suc n) a c d h = ⊎-elim
       (λ h. let (t, l) = swept-reached n a c d h in (t, omega arith))
       (λ f. let (t, l) = swept-reached n (f .a) (f .c) (f .d) (f .from) in
-      (triple-last (skid k asked) (tableStep k asked next) 0 (f .x) t (f .context) (f .specification) (f .controller), rw length-append (omega arith)))
+      (triple-last (system k asked) (tableStep k asked next) 0 (f .x) t (f .context) (f .specification) (f .controller), rw length-append (omega arith)))
       (swept-law n a c d .0 h)
 
   swept-later : (m n a c d : ℕ) → m ≤ n → Held k states (swept k states next m) a c d → Held k states (swept k states next n) a c d

@@ -14,7 +14,7 @@ use Rattle.pairs.specs.Scans.{if_then_else_, left, same}
 use Rattle.pairs.specs.Sets.{member, pairPlace}
 use Rattle.pairs.proofs.Lists.{length-left, part-below, left-mem}
 use Rattle.pairs.proofs.Sets.{pair-context, pair-specification}
-use Rattle.records.specs.Tables.{Skid as Tables}
+use Rattle.records.specs.Tables.{Skid}
 use Rattle.records.specs.Meaning.{NextTable, Legal}
 use Rattle.records.specs.Continues.{everyInput}
 use Rattle.fit.specs.Triples.{sweep, grown, startSets, triples}
@@ -32,10 +32,10 @@ same-true (x ∷ xs) (y ∷ ys) e = go (eqb x y) refl (same-true xs ys) e
     go true h rest e = λ i. eqb-true x y h i ∷ rest e i
     go false h rest e = absurd (false≢true e)
 
-further-map : {k : Tables} {asked : ℕ → ℕ → Bool} {next : List ℕ} {P Q : ℕ → ℕ → ℕ → Type 0} {a c d : ℕ} → ((a c d : ℕ) → P a c d → Q a c d) → Further k asked next P a c d → Further k asked next Q a c d
+further-map : {k : Skid} {asked : ℕ → ℕ → Bool} {next : List ℕ} {P Q : ℕ → ℕ → ℕ → Type 0} {a c d : ℕ} → ((a c d : ℕ) → P a c d → Q a c d) → Further k asked next P a c d → Further k asked next Q a c d
 further-map h f = record { a = f .a; c = f .c; d = f .d; x = f .x; from = h (f .a) (f .c) (f .d) (f .from); context = f .context; specification = f .specification; controller = f .controller }
 
-module _ (k : Tables) (states : ℕ) (next : List ℕ) where
+module _ (k : Skid) (states : ℕ) (next : List ℕ) where
   abbrev more : List ℕ → List ℕ
   more = sweep k states next
 
@@ -71,7 +71,7 @@ module _ (k : Tables) (states : ℕ) (next : List ℕ) where
       go true e rest = refl
       go false e rest = rest e
 
-module _ (k : Tables) (asked : ℕ → ℕ → Bool) (legal : Legal k) (states : ℕ) (next : List ℕ) (table : NextTable states next) where
+module _ (k : Skid) (asked : ℕ → ℕ → Bool) (legal : Legal k) (states : ℕ) (next : List ℕ) (table : NextTable states next) where
   abbrev In : List ℕ → ℕ → ℕ → ℕ → Type 0
   In = Held k states
 
@@ -173,7 +173,7 @@ module _ (k : Tables) (asked : ℕ → ℕ → Bool) (legal : Legal k) (states :
             (t .0) 0 0 0 0 a c d (subst (λ s. In s 0 0 0) (sym e) (swept-start k asked legal states next table n)) (t .1) (t .2) (t .3),
       )
 
-module _ (k : Tables) (legal : Legal k) (states : ℕ) (next : List ℕ) (table : NextTable states next) where
+module _ (k : Skid) (legal : Legal k) (states : ℕ) (next : List ℕ) (table : NextTable states next) where
   -- a further sweep adds nothing
   pub triples-closed : sweep k states next (triples k states next) ≡ triples k states next
   triples-closed = sweep-fixed k everyInput legal states next table (triples k states next) (triples-further k everyInput legal states next table)

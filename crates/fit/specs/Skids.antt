@@ -5,31 +5,31 @@ use mathlib.Core.Bool.{Bool, _&&_}
 use mathlib.Core.List.{List, [], _∷_, _++_, flatMap}
 use lib.Dec.{eqb}
 use lib.ListN.{length, replicate}
-use Rattle.pairs.specs.Scans.{all, any, first, count, left, find, same, less, total}
+use Rattle.pairs.specs.Scans.{all, any, firstPlace, upward, left, find, same, less, total}
 use Rattle.pairs.specs.Sets.{member, join, add, pairLimit}
-use Rattle.pairs.specs.Lent.{filled, encoded, encodedSets}
+use Rattle.pairs.specs.Lent.{filled, setSize, encoded, encodedSets}
 use Rattle.records.specs.declared.Reply.{Reply}
 use Rattle.records.specs.Limits.{stateLimit, setNumbers}
 use Rattle.records.specs.Layouts.{contextLayout, specificationLayout, controllerLayout}
 use Rattle.records.specs.Bytes.{little, numbers}
 use Rattle.records.specs.Records.{rowsOf}
-use Rattle.records.specs.Faults.{within, fieldsBelow, headFault, rowFault, rowsFault, fault}
+use Rattle.records.specs.Faults.{inLimits, fieldsBelow, headFault, rowFault, rowsFault, fault}
 use Rattle.records.specs.Replies.{unless, _orElse_, faultReply, recordRefusal}
 use Rattle.records.specs.NextTables.{tableOf}
-use Rattle.records.specs.Tables.{skidOf, specNext, letters, controllerTable, pairs}
-use Rattle.records.specs.Matching.{skidRefusal, codesAgree, lettersAgree, productFits, codesRefusal, lettersRefusal, productRefusal}
+use Rattle.records.specs.Tables.{specificationTable, skidOf, specNext, letters, controllerTable, pairs}
+use Rattle.records.specs.Matching.{skidRefusal, outsideAgree, lettersAgree, productFits, outsideRefusal, lettersRefusal, productRefusal}
 use Rattle.records.specs.Discover.{meet, scan, discover}
 use Rattle.records.specs.Continues.{everyInput, answers, continuesOn, continues}
 use Rattle.records.specs.Skids.{Case, Checking}
-use Rattle.fit.specs.Triples.{joined, further, visit, sweep, grown, startSets, triples}
+use Rattle.fit.specs.Triples.{withTriple, further, visit, sweep, grown, startSets, triples}
 use Rattle.fit.specs.Verdict.{ownStates, incomplete, leaves, blocks, verdict}
-use Rattle.fit.specs.Check.{checkRefusal, checkVerdict, check, setsNamed, setsChecked}
+use Rattle.fit.specs.Check.{CheckOutcome, checkRefusal, setsNamed, judge, check}
 
 unfoldable pub checks : Case → Checking → Bool
-unfolding all any first count left find same less total member join add pairLimit filled encoded encodedSets flatMap stateLimit setNumbers contextLayout specificationLayout controllerLayout little numbers rowsOf within fieldsBelow headFault rowFault rowsFault fault unless _orElse_ faultReply recordRefusal tableOf skidOf specNext letters controllerTable pairs skidRefusal codesAgree lettersAgree productFits codesRefusal lettersRefusal productRefusal meet scan discover everyInput answers continuesOn continues joined further visit sweep grown startSets triples ownStates incomplete leaves blocks verdict checkRefusal checkVerdict check setsNamed setsChecked
+unfolding all any firstPlace upward left find same less total member join add pairLimit filled setSize encoded encodedSets flatMap stateLimit setNumbers contextLayout specificationLayout controllerLayout little numbers rowsOf inLimits fieldsBelow headFault rowFault rowsFault fault unless _orElse_ faultReply recordRefusal tableOf specificationTable skidOf specNext letters controllerTable pairs skidRefusal outsideAgree lettersAgree productFits outsideRefusal lettersRefusal productRefusal meet scan discover everyInput answers continuesOn continues withTriple further visit sweep grown startSets triples ownStates incomplete leaves blocks verdict checkRefusal setsNamed judge check
 checks c t =
     let lent : List ℕ = replicate 514 7 in
-    let reply : Reply = check (c .context) (c .specification) (t .controller) lent in
+    let outcome : CheckOutcome = check (c .context) (c .specification) (t .controller) lent in
+    let reply : Reply = outcome .reply in
     eqb (reply .number) (t .number) && eqb (reply .«record») 0 && eqb (reply .row) 0 && eqb (reply .states) (t .states) && eqb (reply .rounds) 0 &&
-    same (setsChecked (c .context) (c .specification) (t .controller) lent)
-    (t .reached ++ (replicate (512 - length (t .reached)) 0 ++ (7 ∷ 7 ∷ [])))
+    same (outcome .sets) (t .reached ++ (replicate (512 - length (t .reached)) 0 ++ (7 ∷ 7 ∷ [])))

@@ -10,7 +10,7 @@ use Rattle.records.specs.Limits.{stateLimit}
 use Rattle.records.specs.Layouts.{contextLayout, specificationLayout, controllerLayout}
 use Rattle.records.specs.Records.{countsIn, rowsIn}
 use Rattle.records.specs.Faults.{fault}
-use Rattle.records.specs.Tables.{skidOf, controllerTable, cNext}
+use Rattle.records.specs.Tables.{skidOf, specificationTable, controllerTable, rowNext}
 use Rattle.records.specs.Meaning.{NextTable, Keyed, Legal}
 use Rattle.records.proofs.Sound.{field-below, count-within, one-key}
 use Rattle.records.proofs.NextTables.{next-table}
@@ -25,27 +25,27 @@ key-fields r r′ y (suc (suc (suc (suc zero)))) h = sym (y .same-o)
 key-fields r r′ y (suc (suc (suc (suc (suc j))))) h = absurd (omega arith)
 
 pub legal-skid : (cb sb : List ℕ) → fault contextLayout cb ≡ Sound → fault specificationLayout sb ≡ Sound → Legal (skidOf cb sb)
-unfolding skidOf contextLayout specificationLayout
+unfolding skidOf specificationTable contextLayout specificationLayout
 legal-skid cb sb ec es = record {
-  context-start = count-within contextLayout cb ec 4 (omega arith) (omega arith) .0;
+  context-start = count-within contextLayout cb ec 4 (omega arith) .0;
   context-rows = λ r m. record {
-    state-below = field-below contextLayout cb ec r m 0 (omega arith) (omega arith);
-    i-below = field-below contextLayout cb ec r m 1 (omega arith) (omega arith);
-    v-below = field-below contextLayout cb ec r m 2 (omega arith) (omega arith);
-    u-below = field-below contextLayout cb ec r m 3 (omega arith) (omega arith);
-    o-below = field-below contextLayout cb ec r m 4 (omega arith) (omega arith);
-    next-below = field-below contextLayout cb ec r m 5 (omega arith) (omega arith);
+    state-below = field-below contextLayout cb ec r m 0 (omega arith);
+    i-below = field-below contextLayout cb ec r m 1 (omega arith);
+    v-below = field-below contextLayout cb ec r m 2 (omega arith);
+    u-below = field-below contextLayout cb ec r m 3 (omega arith);
+    o-below = field-below contextLayout cb ec r m 4 (omega arith);
+    next-below = field-below contextLayout cb ec r m 5 (omega arith);
   };
-  one-next = λ r r′ m m′ y. ap cNext (one-key contextLayout cb ec r r′ m m′ (key-fields r r′ y));
+  one-next = λ r r′ m m′ y. ap rowNext (one-key contextLayout cb ec r r′ m m′ (key-fields r r′ y));
   specification-table =
-      let (low, high) = count-within specificationLayout sb es 2 (omega arith) (omega arith) in
+      let (low, high) = count-within specificationLayout sb es 2 (omega arith) in
       next-table (getD (countsIn specificationLayout sb) 0 0) (getD (countsIn specificationLayout sb) 1 0) (getD (countsIn specificationLayout sb) 2 0) (rowsIn specificationLayout sb)
-      low (omega arith) (λ r m. field-below specificationLayout sb es r m 3 (omega arith) (omega arith));
+      low (omega arith) (λ r m. field-below specificationLayout sb es r m 3 (omega arith));
 }
 
 pub read-controller : (tb : List ℕ) → fault controllerLayout tb ≡ Sound → NextTable (getD (countsIn controllerLayout tb) 2 0) (controllerTable tb)
 unfolding controllerTable controllerLayout stateLimit
 read-controller tb e =
-    let (low, high) = count-within controllerLayout tb e 2 (omega arith) (omega arith) in
+    let (low, high) = count-within controllerLayout tb e 2 (omega arith) in
     next-table (getD (countsIn controllerLayout tb) 0 0) (getD (countsIn controllerLayout tb) 1 0) (getD (countsIn controllerLayout tb) 2 0) (rowsIn controllerLayout tb)
-    low (omega arith) (λ r m. field-below controllerLayout tb e r m 3 (omega arith) (omega arith))
+    low (omega arith) (λ r m. field-below controllerLayout tb e r m 3 (omega arith))

@@ -4,18 +4,19 @@ use mathlib.Core.Path.{_≡_, refl}
 use Prim.Native.Nat.{ℕ}
 use mathlib.Core.List.{List, [], _∷_, _++_, flatMap}
 use lib.ListN.{replicate}
-use Rattle.pairs.specs.Scans.{same, less, total}
+use Rattle.pairs.specs.Scans.{firstPlace, same, less, total}
 use Rattle.pairs.specs.Lent.{filled}
+use Rattle.records.specs.Counts.{noCounts}
 use Rattle.records.specs.Limits.{stateLimit, nextNumbers}
 use Rattle.records.specs.Layouts.{contextLayout, specificationLayout, controllerLayout}
 use Rattle.records.specs.Bytes.{little, bytesOf, numbers, written}
 use Rattle.records.specs.Records.{rowsOf, recordOf}
-use Rattle.records.specs.Faults.{within, fieldsBelow, headFault, rowFault, rowsFault, fault}
+use Rattle.records.specs.Faults.{inLimits, fieldsBelow, headFault, rowFault, rowsFault, fault}
 use Rattle.records.specs.Replies.{success, refusal, unless, _orElse_, faultReply, recordRefusal}
 use Rattle.records.specs.NextTables.{tableOf, listing}
 use Rattle.records.specs.Tables.{controllerTable}
-use Rattle.records.specs.Reading.{noCounts, contextCounts, specificationCounts, controllerCounts, reading, readContext, readSpecification, controllerRefusal, readController, nextRead}
-use Rattle.records.specs.Writing.{badPlace, controllerBytes, placeRefusal, writeRefusal, writeController, bufferWritten}
+use Rattle.records.specs.Reading.{reading, readContext, readSpecification, controllerRefusal, readController}
+use Rattle.records.specs.Writing.{badPlace, controllerBytes, placeRefusal, writeRefusal, writeController}
 
 -- U=2, V=2, two states: state 0 goes to 1 by (0, 1) and stays by (1, 0); state 1 goes to 0 by (1, 1)
 bytes : List ℕ
@@ -38,34 +39,34 @@ reads : (readContext (0x0D ∷ 0 ∷ 0x43 ∷ 0x58 ∷ 1 ∷ 2 ∷ 3 ∷ 4 ∷ 5
     ∷ record { reply = refusal 3 2 0 0; counts = noCounts }
     ∷ record { reply = refusal 7 1 1 0; counts = noCounts }
     ∷ []
-unfolding same less total stateLimit contextLayout specificationLayout little numbers rowsOf within fieldsBelow headFault rowFault rowsFault fault faultReply recordRefusal contextCounts specificationCounts reading readContext readSpecification
+unfolding same less total stateLimit contextLayout specificationLayout little numbers rowsOf inLimits fieldsBelow headFault rowFault rowsFault fault faultReply recordRefusal reading readContext readSpecification
 reads = refl
 
 -- a controller: its counts, the table, zeros up to 8,192, and what was beyond; nothing where the buffer is too short or the record is refused
-controller : (readController bytes (replicate 8194 7) ∷ readController bytes (replicate 8191 7) ∷ readController (0 ∷ bytes) (replicate 8191 7) ∷ []) ≡
+controller : (readController bytes (replicate 8194 7) .reading ∷ readController bytes (replicate 8191 7) .reading ∷ readController (0 ∷ bytes) (replicate 8191 7) .reading ∷ []) ≡
     record { reply = success 2 0; counts = record { i = 0; o = 0; u = 2; v = 2; states = 2; rows = 3 } }
     ∷ record { reply = refusal 10 0 0 0; counts = noCounts }
     ∷ record { reply = refusal 1 3 0 0; counts = noCounts }
     ∷ []
-unfolding bytes same less total stateLimit nextNumbers controllerLayout little numbers rowsOf within fieldsBelow headFault rowFault rowsFault fault unless _orElse_ faultReply recordRefusal controllerCounts reading controllerRefusal readController
+unfolding bytes same less total stateLimit nextNumbers controllerLayout little numbers rowsOf inLimits fieldsBelow headFault rowFault rowsFault fault unless _orElse_ faultReply recordRefusal reading tableOf controllerTable controllerRefusal readController filled
 controller = refl
 
-tables : (nextRead bytes (replicate 8194 7) ∷ nextRead bytes (7 ∷ 7 ∷ []) ∷ nextRead (0 ∷ bytes) (7 ∷ 7 ∷ []) ∷ []) ≡
+tables : (readController bytes (replicate 8194 7) .next ∷ readController bytes (7 ∷ 7 ∷ []) .next ∷ readController (0 ∷ bytes) (7 ∷ 7 ∷ []) .next ∷ []) ≡
     (next ++ (replicate 8184 0 ++ (7 ∷ 7 ∷ []))) ∷ (7 ∷ 7 ∷ []) ∷ (7 ∷ 7 ∷ []) ∷ []
-unfolding bytes next same less total filled stateLimit nextNumbers controllerLayout little numbers rowsOf within fieldsBelow headFault rowFault rowsFault fault unless _orElse_ faultReply recordRefusal tableOf controllerTable controllerRefusal nextRead
+unfolding bytes next same less total filled stateLimit nextNumbers controllerLayout little numbers rowsOf inLimits fieldsBelow headFault rowFault rowsFault fault unless _orElse_ faultReply recordRefusal tableOf reading controllerTable controllerRefusal readController
 tables = refl
 
 -- what writing replies: the record fits exactly from place 1 of 27 bytes; a count outside its limit; the table lacks a place; one byte too few; a
 -- start past the end; 10 before 5; the first bad place as row
-replies : (writeController 2 2 2 next (replicate 27 7) 1
-    ∷ writeController 0 2 2 next (replicate 27 7) 1
-    ∷ writeController 2 5 2 next (replicate 27 7) 1
-    ∷ writeController 2 2 513 next (replicate 27 7) 1
-    ∷ writeController 2 2 3 next (replicate 99 7) 1
-    ∷ writeController 2 2 2 next (replicate 26 7) 1
-    ∷ writeController 2 2 2 next (replicate 27 7) 28
-    ∷ writeController 2 2 1 next (replicate 19 7) 0
-    ∷ writeController 2 2 1 next (replicate 20 7) 0
+replies : (writeController 2 2 2 next (replicate 27 7) 1 .reply
+    ∷ writeController 0 2 2 next (replicate 27 7) 1 .reply
+    ∷ writeController 2 5 2 next (replicate 27 7) 1 .reply
+    ∷ writeController 2 2 513 next (replicate 27 7) 1 .reply
+    ∷ writeController 2 2 3 next (replicate 99 7) 1 .reply
+    ∷ writeController 2 2 2 next (replicate 26 7) 1 .reply
+    ∷ writeController 2 2 2 next (replicate 27 7) 28 .reply
+    ∷ writeController 2 2 1 next (replicate 19 7) 0 .reply
+    ∷ writeController 2 2 1 next (replicate 20 7) 0 .reply
     ∷ []) ≡
     success 2 0
     ∷ refusal 4 3 0 0
@@ -77,11 +78,11 @@ replies : (writeController 2 2 2 next (replicate 27 7) 1
     ∷ refusal 10 0 0 0
     ∷ refusal 5 3 1 0
     ∷ []
-unfolding next total stateLimit controllerLayout bytesOf written recordOf flatMap within unless _orElse_ listing badPlace controllerBytes placeRefusal writeRefusal writeController
+unfolding next total stateLimit controllerLayout bytesOf written recordOf flatMap inLimits unless _orElse_ listing firstPlace badPlace controllerBytes placeRefusal writeRefusal writeController
 replies = refl
 
 -- and what it leaves: the record's bytes from the start place on, all other bytes; a refused write changes nothing
-writes : (bufferWritten 2 2 2 next (replicate 28 7) 1 ∷ bufferWritten 2 2 1 next (replicate 20 7) 0 ∷ []) ≡
+writes : (writeController 2 2 2 next (replicate 28 7) 1 .buffer ∷ writeController 2 2 1 next (replicate 20 7) 0 .buffer ∷ []) ≡
     (7 ∷ (bytes ++ (7 ∷ []))) ∷ replicate 20 7 ∷ []
-unfolding bytes next total stateLimit controllerLayout bytesOf written recordOf flatMap within unless _orElse_ listing badPlace controllerBytes placeRefusal writeRefusal bufferWritten
+unfolding bytes next total stateLimit controllerLayout bytesOf written recordOf flatMap inLimits unless _orElse_ listing firstPlace badPlace controllerBytes placeRefusal writeRefusal writeController
 writes = refl

@@ -17,9 +17,8 @@ use Rattle.records.specs.Layouts.{Layout, contextLayout, specificationLa
 use Rattle.records.specs.Records.{countsIn, rowsIn}
 use Rattle.records.specs.Faults.{fault}
 use Rattle.records.specs.NextTables.{stepPlace, there, tableOf}
-use Rattle.records.specs.Tables.{skidOf, specNext, controllerTable, letterAt, nextAt}
-use Rattle.records.specs.Matching.{codesAgree, lettersAgree}
-use Rattle.records.specs.Meaning.{contextNext}
+use Rattle.records.specs.Tables.{specificationTable, skidOf, contextNext, specNext, controllerTable, letterAt, nextAt}
+use Rattle.records.specs.Matching.{outsideAgree, lettersAgree}
 use Rattle.records.proofs.Sound.{row-length, field-below, count-within, one-key}
 use Rattle.records.proofs.Rows.{step-row, row-step}
 use Rattle.records.proofs.TableRows.{StepRow, StepRows, table-leads}
@@ -61,7 +60,7 @@ module _ (l : Layout) (fields : length (l .fieldSizes) ≡ 4) (below : l .below 
   states = getD (countsIn l b) 2 0
 
   field : (r : List ℕ) → List·Memᴰ r (rowsIn l b) → (j : ℕ) → j < 4 → getD r j 0 < getD (countsIn l b) (getD (2 ∷ 0 ∷ 1 ∷ 2 ∷ []) j 0) 0
-  field r mr j h = rw below at (field-below l b e r mr j (rw fields h) (rw below h))
+  field r mr j h = rw below at (field-below l b e r mr j (rw fields h))
 
   step-rows : states ≤ absent → StepRows m n states (rowsIn l b)
   step-rows few = record {
@@ -96,13 +95,13 @@ agreeing : (a b c d : ℕ) → (eqb a b && eqb c d) ≡ true → (a ≡ b) × (c
 agreeing a b c d e = let (t, t′) = and-yes (eqb a b) (eqb c d) (subst T (sym e) tt) in (eqb→eq a b t, eqb→eq c d t′)
 
 -- where I and O agree: the specification goes from c by i and o to c′ exactly if its record has the row
-pub specification-row : (cb sb : List ℕ) → fault specificationLayout sb ≡ Sound → codesAgree cb sb ≡ true
+pub specification-row : (cb sb : List ℕ) → fault specificationLayout sb ≡ Sound → outsideAgree cb sb ≡ true
     → (c i o c′ : ℕ) → i < skidOf cb sb .nI → o < skidOf cb sb .nO
     → specNext (skidOf cb sb) c i o ≡ some c′ ↔ List·Memᴰ (c ∷ i ∷ o ∷ c′ ∷ []) (rowsIn specificationLayout sb)
-unfolding skidOf specNext codesAgree specificationLayout
+unfolding skidOf specificationTable specNext outsideAgree specificationLayout
 specification-row cb sb es agree c i o c′ hi ho =
     let (ei, eo) = agreeing (getD (countsIn contextLayout cb) 0 0) (getD (countsIn specificationLayout sb) 0 0) (getD (countsIn contextLayout cb) 1 0) (getD (countsIn specificationLayout sb) 1 0) agree in
-    let (low, high) = count-within specificationLayout sb es 2 (omega arith) (omega arith) in
+    let (low, high) = count-within specificationLayout sb es 2 (omega arith) in
     table-row specificationLayout refl refl refl sb es (omega arith) (getD (countsIn contextLayout cb) 0 0) (getD (countsIn contextLayout cb) 1 0) ei eo c i o c′ hi ho
 
 -- where U and V agree: the controller goes from s by u and v to s′ exactly if its record has the row
@@ -112,5 +111,5 @@ pub controller-row : (cb sb tb : List ℕ) → fault controllerLayout tb ≡ Sou
 unfolding skidOf controllerTable lettersAgree controllerLayout stateLimit
 controller-row cb sb tb et agree s u v s′ hu hv =
     let (eu, ev) = agreeing (getD (countsIn contextLayout cb) 2 0) (getD (countsIn controllerLayout tb) 0 0) (getD (countsIn contextLayout cb) 3 0) (getD (countsIn controllerLayout tb) 1 0) agree in
-    let (low, high) = count-within controllerLayout tb et 2 (omega arith) (omega arith) in
+    let (low, high) = count-within controllerLayout tb et 2 (omega arith) in
     table-row controllerLayout refl refl refl tb et (omega arith) (getD (countsIn contextLayout cb) 2 0) (getD (countsIn contextLayout cb) 3 0) eu ev s u v s′ hu hv

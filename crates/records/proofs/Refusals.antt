@@ -11,7 +11,7 @@ use Rattle.records.specs.Limits.{stateLimit}
 use Rattle.records.specs.Layouts.{Layout, contextLayout, specificationLayout, controllerLayout}
 use Rattle.records.specs.Bytes.{little, numbers}
 use Rattle.records.specs.Records.{rowsOf}
-use Rattle.records.specs.Faults.{within, fieldsBelow, headFault, rowFault, rowsFault, fault}
+use Rattle.records.specs.Faults.{inLimits, fieldsBelow, headFault, rowFault, rowsFault, fault}
 
 record Sample : Type 0 where
   bytes : List ℕ
@@ -21,7 +21,7 @@ abbrev gives : List ℕ → Fault → Sample
 gives b f = record { bytes = b; finding = f }
 
 found : Layout → List Sample → List Fault
-unfolding same less total stateLimit contextLayout specificationLayout controllerLayout little numbers rowsOf within fieldsBelow headFault rowFault rowsFault fault
+unfolding same less total stateLimit contextLayout specificationLayout controllerLayout little numbers rowsOf inLimits fieldsBelow headFault rowFault rowsFault fault
 found l samples = map (λ s. fault l (s .bytes)) samples
 
 asked : List Sample → List Fault

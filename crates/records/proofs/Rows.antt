@@ -1,70 +1,72 @@
--- The context's rows are the steps of the skid; the specification and a controller go by their next tables to states of theirs.
+-- The context's rows are the steps of the system; the specification and a controller go by their next tables to states of theirs.
 -- Assumes nothing.
 use mathlib.Core.Path.{_≡_, refl, sym, ap, subst, _∙_}
 use mathlib.Core.Logic.{⊎-elim}
 use mathlib.Core.Bool.{Bool, true, false, not}
-use mathlib.Core.Option.{Option, none, some, Option·map, Option·none-ne-some, Option·some-injective}
-use mathlib.Core.List.{List, [], _∷_, List·Memᴰ, List·Memᴰ·head, List·Memᴰ·tail, List·Memᴰ·not-nil}
+use mathlib.Core.Option.{none, some, Option·none-ne-some, Option·some-injective}
+use mathlib.Core.List.{List, [], List·Memᴰ}
 use Prim.Native.Nat.{ℕ, _<_}
-use lib.Dec.{T, eqb, eqb→eq, eqb-refl}
-use lib.ListN.{getD}
+use native.Mathlib.Omega.{arith}
+use lib.Dec.{T, ltb, eqb, eqb→eq, eqb-refl}
+use lib.ListN.{length, getD}
+use borrow.Author.Tests.{ltb-true, lt-ltb}
 use mir.Facts.{and-yes, yes-and}
-use Rattle.pairs.specs.Scans.{if_then_else_, first}
+use Rattle.pairs.specs.Scans.{if_then_else_, firstPlace}
+use Rattle.pairs.proofs.Lists.{place-at, place-first, mem-at, at-mem}
 use Rattle.records.specs.Limits.{absent}
 use Rattle.records.specs.NextTables.{there}
-use Rattle.records.specs.Tables.{Skid as Tables, cState, cI, cV, cU, cO, cNext, specNext}
-use Rattle.records.specs.Meaning.{hasKey, contextNext, NextTable, Keyed, Legal, skid}
-
--- the first of a list that passes a test
-module _ {E : Type 0} (p : E → Bool) where
-  first-found : (l : List E) (r : E) → first p l ≡ some r → List·Memᴰ r l × T (p r)
-  unfolding first
-  first-found [] r e = absurd (Option·none-ne-some r e)
-  first-found (x ∷ l) r e = go (p x) refl (first-found l r) e
-    where
-      go : (b : Bool) → p x ≡ b → (first p l ≡ some r → List·Memᴰ r l × T (p r)) → (if b then some x else first p l) ≡ some r → List·Memᴰ r (x ∷ l) × T (p r)
-      go true h rest e = let same : x ≡ r = Option·some-injective x r e in (List·Memᴰ·head (sym same), subst T (sym h ∙ ap p same) tt)
-      go false h rest e = let (m, t) = rest e in (List·Memᴰ·tail m, t)
-
-  found-first : (l : List E) (r : E) → List·Memᴰ r l → T (p r) → (r′ : E) × (first p l ≡ some r′)
-  unfolding first
-  found-first [] r m t = absurd (List·Memᴰ·not-nil m)
-  found-first (x ∷ l) r m t = go (p x) refl (λ d. found-first l r d t) m
-    where
-      go : (b : Bool) → p x ≡ b → (List·Memᴰ r l → (r′ : E) × (first p l ≡ some r′)) → List·Memᴰ r (x ∷ l) → (r′ : E) × ((if b then some x else first p l) ≡ some r′)
-      go true h rest m = (x, refl)
-      go false h rest (List·Memᴰ·head e) = absurd (subst T (ap p e ∙ h) t)
-      go false h rest (List·Memᴰ·tail d) = rest d
-
-mapped : {A B : Type 0} (f : A → B) (o : Option A) (b : B) → Option·map f o ≡ some b → (a : A) × (o ≡ some a) × (f a ≡ b)
-mapped f none b e = absurd (Option·none-ne-some b e)
-mapped f (some a) b e = (a, refl, Option·some-injective (f a) b e)
+use Rattle.records.specs.Tables.{Skid, rowState, rowI, rowV, rowU, rowO, rowNext, hasKey, rowNumber, contextNext, specNext}
+use Rattle.records.specs.Meaning.{NextTable, Keyed, Legal, system}
 
 key-yes : (a i v u o : ℕ) (r : List ℕ) → T (hasKey a i v u o r) → Keyed a i v u o r
 key-yes a i v u o r t =
-    let (t₁, s₁) = and-yes (eqb (cState r) a) _ t in
-    let (t₂, s₂) = and-yes (eqb (cI r) i) _ s₁ in
-    let (t₃, s₃) = and-yes (eqb (cV r) v) _ s₂ in
-    let (t₄, t₅) = and-yes (eqb (cU r) u) (eqb (cO r) o) s₃ in
+    let (t₁, s₁) = and-yes (eqb (rowState r) a) _ t in
+    let (t₂, s₂) = and-yes (eqb (rowI r) i) _ s₁ in
+    let (t₃, s₃) = and-yes (eqb (rowV r) v) _ s₂ in
+    let (t₄, t₅) = and-yes (eqb (rowU r) u) (eqb (rowO r) o) s₃ in
     record {
-      same-state = eqb→eq (cState r) a t₁;
-      same-i = eqb→eq (cI r) i t₂;
-      same-v = eqb→eq (cV r) v t₃;
-      same-u = eqb→eq (cU r) u t₄;
-      same-o = eqb→eq (cO r) o t₅;
+      same-state = eqb→eq (rowState r) a t₁;
+      same-i = eqb→eq (rowI r) i t₂;
+      same-v = eqb→eq (rowV r) v t₃;
+      same-u = eqb→eq (rowU r) u t₄;
+      same-o = eqb→eq (rowO r) o t₅;
     }
 
-yes-key : (r : List ℕ) → T (hasKey (cState r) (cI r) (cV r) (cU r) (cO r) r)
-yes-key r = yes-and (eqb (cState r) (cState r)) _ (eqb-refl (cState r)) (yes-and (eqb (cI r) (cI r)) _ (eqb-refl (cI r))
-    (yes-and (eqb (cV r) (cV r)) _ (eqb-refl (cV r)) (yes-and (eqb (cU r) (cU r)) (eqb (cO r) (cO r)) (eqb-refl (cU r)) (eqb-refl (cO r)))))
+yes-key : (r : List ℕ) → T (hasKey (rowState r) (rowI r) (rowV r) (rowU r) (rowO r) r)
+yes-key r = yes-and (eqb (rowState r) (rowState r)) _ (eqb-refl (rowState r)) (yes-and (eqb (rowI r) (rowI r)) _ (eqb-refl (rowI r))
+    (yes-and (eqb (rowV r) (rowV r)) _ (eqb-refl (rowV r)) (yes-and (eqb (rowU r) (rowU r)) (eqb (rowO r) (rowO r)) (eqb-refl (rowU r)) (eqb-refl (rowO r)))))
+
+yes-true : (b : Bool) → T b → b ≡ true
+yes-true true t = refl
+yes-true false t = absurd t
+
+-- the row of that number, where there is one
+row-there : (rows : List (List ℕ)) (a i v u o : ℕ) → rowNumber rows a i v u o < length rows → Keyed a i v u o (getD rows (rowNumber rows a i v u o) [])
+unfolding rowNumber
+row-there rows a i v u o h = key-yes a i v u o (getD rows (firstPlace (hasKey a i v u o) rows) []) (subst T (sym (place-at (hasKey a i v u o) rows [] h)) tt)
+
+row-listed : (rows : List (List ℕ)) (r : List ℕ) → List·Memᴰ r rows → rowNumber rows (rowState r) (rowI r) (rowV r) (rowU r) (rowO r) < length rows
+unfolding rowNumber
+row-listed rows r m =
+    let (j, h, e) = mem-at [] m in
+    let f = place-first (hasKey (rowState r) (rowI r) (rowV r) (rowU r) (rowO r)) rows [] j h (ap (hasKey (rowState r) (rowI r) (rowV r) (rowU r) (rowO r)) e ∙ yes-true _ (yes-key r)) in
+    omega arith
 
 -- a step of the context is a row of it
 pub step-row : (rows : List (List ℕ)) (a i v u o a′ : ℕ) → contextNext rows a i v u o ≡ some a′
-    → (r : List ℕ) × List·Memᴰ r rows × Keyed a i v u o r × (cNext r ≡ a′)
-step-row rows a i v u o a′ e =
-    let (r, e₁, e₂) = mapped cNext (first (hasKey a i v u o) rows) a′ e in
-    let (m, t) = first-found (hasKey a i v u o) rows r e₁ in
-    (r, m, key-yes a i v u o r t, e₂)
+    → (r : List ℕ) × List·Memᴰ r rows × Keyed a i v u o r × (rowNext r ≡ a′)
+unfolding contextNext
+step-row rows a i v u o a′ e = go (ltb n (length rows)) refl e
+  where
+    n : ℕ
+    n = rowNumber rows a i v u o
+
+    go : (b : Bool) → ltb n (length rows) ≡ b → (if b then some (rowNext (getD rows n [])) else none) ≡ some a′
+        → (r : List ℕ) × List·Memᴰ r rows × Keyed a i v u o r × (rowNext r ≡ a′)
+    go true t e =
+        let h : n < length rows = ltb-true n (length rows) t in
+        (getD rows n [], at-mem rows n [] h, row-there rows a i v u o h, Option·some-injective (rowNext (getD rows n [])) a′ e)
+    go false t e = absurd (Option·none-ne-some a′ e)
 
 -- an entry of a next table is a state exactly if it is not 65535
 pub has-there : (j : ℕ) → T (not (eqb j absent)) → there j ≡ some j
@@ -88,23 +90,23 @@ entry-below states next table p j e = ⊎-elim
     (λ h. subst (λ n. n < states) (there-has (getD next p absent) j e .1) h)
     (table .entry p)
 
-module _ (k : Tables) (legal : Legal k) where
+module _ (k : Skid) (legal : Legal k) where
   -- a row of the context is a step of it
-  pub row-step : (r : List ℕ) → List·Memᴰ r (k .context) → contextNext (k .context) (cState r) (cI r) (cV r) (cU r) (cO r) ≡ some (cNext r)
+  pub row-step : (r : List ℕ) → List·Memᴰ r (k .context) → contextNext (k .context) (rowState r) (rowI r) (rowV r) (rowU r) (rowO r) ≡ some (rowNext r)
+  unfolding contextNext
   row-step r m =
-      let (r′, e) = found-first (hasKey (cState r) (cI r) (cV r) (cU r) (cO r)) (k .context) r m (yes-key r) in
-      let (m′, t) = first-found (hasKey (cState r) (cI r) (cV r) (cU r) (cO r)) (k .context) r′ e in
-      let y = key-yes (cState r) (cI r) (cV r) (cU r) (cO r) r′ t in
-      ap (Option·map cNext) e ∙ ap some (sym (legal .one-next r r′ m m′ y))
+      let h = row-listed (k .context) r m in
+      rw (lt-ltb _ (length (k .context)) h)
+      (ap some (sym (legal .one-next r _ m (at-mem (k .context) _ [] h) (row-there (k .context) (rowState r) (rowI r) (rowV r) (rowU r) (rowO r) h))))
 
   -- the specification goes to one of its states
   pub spec-below : (c i o c′ : ℕ) → specNext k c i o ≡ some c′ → c′ < k .nC
   unfolding specNext
   spec-below c i o c′ e = entry-below (k .nC) (k .specification) (legal .specification-table) _ c′ e
 
-  -- a row of the context as a step of the skid, and that it is one from its state
-  abbrev pub action : (asked : ℕ → ℕ → Bool) (r : List ℕ) → List·Memᴰ r (k .context) → skid k asked .Act
-  action asked r m = let row = legal .context-rows r m in (((cI r, row .i-below), (cO r, row .o-below)), ((cU r, row .u-below), (cV r, row .v-below)))
+  -- a row of the context as a step of the system, and that it is one from its state
+  abbrev pub action : (asked : ℕ → ℕ → Bool) (r : List ℕ) → List·Memᴰ r (k .context) → system k asked .Step
+  action asked r m = let row = legal .context-rows r m in (((rowI r, row .i-below), (rowO r, row .o-below)), ((rowU r, row .u-below), (rowV r, row .v-below)))
 
-  pub row-context : (asked : ℕ → ℕ → Bool) (a : ℕ) (r : List ℕ) (m : List·Memᴰ r (k .context)) → cState r ≡ a → skid k asked .ctx a (action asked r m) ≡ some (cNext r)
-  row-context asked a r m e = subst (λ a. contextNext (k .context) a (cI r) (cV r) (cU r) (cO r) ≡ some (cNext r)) e (row-step r m)
+  pub row-context : (asked : ℕ → ℕ → Bool) (a : ℕ) (r : List ℕ) (m : List·Memᴰ r (k .context)) → rowState r ≡ a → system k asked .ctx a (action asked r m) ≡ some (rowNext r)
+  row-context asked a r m e = subst (λ a. contextNext (k .context) a (rowI r) (rowV r) (rowU r) (rowO r) ≡ some (rowNext r)) e (row-step r m)

@@ -17,7 +17,7 @@ use Rattle.records.specs.declared.Fault.the-variants.{Sound, Length, Kin
 use Rattle.records.specs.Layouts.{Layout}
 use Rattle.records.specs.Bytes.{numbers}
 use Rattle.records.specs.Records.{rowsOf, lengthIn, kindIn, headSize, rowSize, countsIn, rowCount, rowsIn}
-use Rattle.records.specs.Faults.{isSound, within, fieldsBelow, keyOf, headFault, rowFault, rowsFault, fault}
+use Rattle.records.specs.Faults.{isSound, inLimits, fieldsBelow, keyOf, headFault, rowFault, rowsFault, fault}
 use Rattle.records.proofs.Order.{less-self, less-trans, less-other}
 
 sound : (f : Fault) → isSound f ≡ true → f ≡ Sound
@@ -58,21 +58,21 @@ rows-length ws zero b r m = absurd (List·Memᴰ·not-nil m)
 rows-length ws (suc n) b r (List·Memᴰ·head e) = ap length e ∙ length-numbers ws b
 rows-length ws (suc n) b r (List·Memᴰ·tail m) = rows-length ws n (drop (total ws) b) r m
 
-within-at : (xs ls : List ℕ) → T (within xs ls) → (j : ℕ) → j < length xs → j < length ls → (1 ≤ getD xs j 0) × (getD xs j 0 ≤ getD ls j 0)
-unfolding within
-within-at [] ls t j h g = absurd (not-suc-le-zero h)
-within-at (x ∷ xs) [] t j h g = absurd (not-suc-le-zero g)
-within-at (x ∷ xs) (l ∷ ls) t zero h g =
-    let (t₁, t₂) = and-yes (leb 1 x) (leb x l) (and-yes (leb 1 x && leb x l) (within xs ls) t .0) in
+within-at : (xs ls : List ℕ) → T (inLimits xs ls) → (j : ℕ) → j < length xs → (1 ≤ getD xs j 0) × (getD xs j 0 ≤ getD ls j 0)
+unfolding inLimits
+within-at [] ls t j h = absurd (not-suc-le-zero h)
+within-at (x ∷ xs) [] t j h = absurd t
+within-at (x ∷ xs) (l ∷ ls) t zero h =
+    let (t₁, t₂) = and-yes (leb 1 x) (leb x l) (and-yes (leb 1 x && leb x l) (inLimits xs ls) t .0) in
     (leb→le 1 x t₁, leb→le x l t₂)
-within-at (x ∷ xs) (l ∷ ls) t (suc j) h g = within-at xs ls (and-yes (leb 1 x && leb x l) (within xs ls) t .1) j (le-of-suc-le-suc h) (le-of-suc-le-suc g)
+within-at (x ∷ xs) (l ∷ ls) t (suc j) h = within-at xs ls (and-yes (leb 1 x && leb x l) (inLimits xs ls) t .1) j (le-of-suc-le-suc h)
 
-below-at : (counts xs ks : List ℕ) → T (fieldsBelow counts xs ks) → (j : ℕ) → j < length xs → j < length ks → getD xs j 0 < getD counts (getD ks j 0) 0
+below-at : (counts xs ks : List ℕ) → T (fieldsBelow counts xs ks) → (j : ℕ) → j < length xs → getD xs j 0 < getD counts (getD ks j 0) 0
 unfolding fieldsBelow
-below-at counts [] ks t j h g = absurd (not-suc-le-zero h)
-below-at counts (x ∷ xs) [] t j h g = absurd (not-suc-le-zero g)
-below-at counts (x ∷ xs) (k ∷ ks) t zero h g = ltb→lt x (getD counts k 0) (and-yes (ltb x (getD counts k 0)) (fieldsBelow counts xs ks) t .0)
-below-at counts (x ∷ xs) (k ∷ ks) t (suc j) h g = below-at counts xs ks (and-yes (ltb x (getD counts k 0)) (fieldsBelow counts xs ks) t .1) j (le-of-suc-le-suc h) (le-of-suc-le-suc g)
+below-at counts [] ks t j h = absurd (not-suc-le-zero h)
+below-at counts (x ∷ xs) [] t j h = absurd t
+below-at counts (x ∷ xs) (k ∷ ks) t zero h = ltb→lt x (getD counts k 0) (and-yes (ltb x (getD counts k 0)) (fieldsBelow counts xs ks) t .0)
+below-at counts (x ∷ xs) (k ∷ ks) t (suc j) h = below-at counts xs ks (and-yes (ltb x (getD counts k 0)) (fieldsBelow counts xs ks) t .1) j (le-of-suc-le-suc h)
 
 module _ (l : Layout) where
   -- a row that is sound, after the key before it
@@ -136,14 +136,14 @@ module _ (l : Layout) where
         go (List·Memᴰ·tail a) (List·Memᴰ·head b) rest = absurd (above-x r a (ap (keyOf l) (sym b) ∙ sym e))
         go (List·Memᴰ·tail a) (List·Memᴰ·tail b) rest = rest a b e
 
-  counts-within : (b : List ℕ) → headFault l b ≡ Sound → T (within (countsIn l b) (l .limits))
+  counts-within : (b : List ℕ) → headFault l b ≡ Sound → T (inLimits (countsIn l b) (l .limits))
   unfolding headFault
   counts-within b e =
       let (p₁, e₁) = passed (ltb (length b) 4 || not (eqb (lengthIn b + 2) (length b))) Length _ refl e in
       let (p₂, e₂) = passed (not (same (kindIn b) (l .kind))) Kind _ refl e₁ in
       let (p₃, e₃) = passed (ltb (length b) (headSize l) || not (eqb ((length b - headSize l) % rowSize l) 0)) Cut _ refl e₂ in
-      let (p₄, e₄) = passed (not (within (countsIn l b) (l .limits)) || ltb (l .rowLimit) (rowCount l b)) Limit Sound refl e₃ in
-      subst T (sym (not-false (within (countsIn l b) (l .limits)) (or-false-left (not (within (countsIn l b) (l .limits))) (ltb (l .rowLimit) (rowCount l b)) p₄))) tt
+      let (p₄, e₄) = passed (not (inLimits (countsIn l b) (l .limits)) || ltb (l .rowLimit) (rowCount l b)) Limit Sound refl e₃ in
+      subst T (sym (not-false (inLimits (countsIn l b) (l .limits)) (or-false-left (not (inLimits (countsIn l b) (l .limits))) (ltb (l .rowLimit) (rowCount l b)) p₄))) tt
 
 module _ (l : Layout) (b : List ℕ) (e : fault l b ≡ Sound) where
   parts : (headFault l b ≡ Sound) × (rowsFault l (countsIn l b) 0 [] (rowsIn l b) ≡ Sound)
@@ -157,12 +157,12 @@ module _ (l : Layout) (b : List ℕ) (e : fault l b ≡ Sound) where
   row-length = rows-length (l .fieldSizes) (rowCount l b) (drop (headSize l) b)
 
   -- "a code or state" is below its count
-  pub field-below : (r : List ℕ) → List·Memᴰ r (rowsIn l b) → (j : ℕ) → j < length (l .fieldSizes) → j < length (l .below) → getD r j 0 < getD (countsIn l b) (getD (l .below) j 0) 0
-  field-below r m j h g = below-at (countsIn l b) r (l .below) (fields-below l (countsIn l b) [] (rowsIn l b) rising r m) j (subst (λ n. j < n) (sym (row-length r m)) h) g
+  pub field-below : (r : List ℕ) → List·Memᴰ r (rowsIn l b) → (j : ℕ) → j < length (l .fieldSizes) → getD r j 0 < getD (countsIn l b) (getD (l .below) j 0) 0
+  field-below r m j h = below-at (countsIn l b) r (l .below) (fields-below l (countsIn l b) [] (rowsIn l b) rising r m) j (subst (λ n. j < n) (sym (row-length r m)) h)
 
   -- a count is at least 1 and at most its limit
-  pub count-within : (j : ℕ) → j < length (l .countSizes) → j < length (l .limits) → (1 ≤ getD (countsIn l b) j 0) × (getD (countsIn l b) j 0 ≤ getD (l .limits) j 0)
-  count-within j h g = within-at (countsIn l b) (l .limits) (counts-within l b (parts .0)) j (subst (λ n. j < n) (sym (length-numbers (l .countSizes) (drop 4 b))) h) g
+  pub count-within : (j : ℕ) → j < length (l .countSizes) → (1 ≤ getD (countsIn l b) j 0) × (getD (countsIn l b) j 0 ≤ getD (l .limits) j 0)
+  count-within j h = within-at (countsIn l b) (l .limits) (counts-within l b (parts .0)) j (subst (λ n. j < n) (sym (length-numbers (l .countSizes) (drop 4 b))) h)
 
   -- "Keys rise strictly": no key twice
   pub one-key : (r r′ : List ℕ) → List·Memᴰ r (rowsIn l b) → List·Memᴰ r′ (rowsIn l b) → ((j : ℕ) → j < l .keySize → getD r j 0 ≡ getD r′ j 0) → r ≡ r′

@@ -2,7 +2,7 @@
 -- within it 5, 6, 7".
 -- Assumes nothing.
 use Prim.Native.Nat.{ℕ, suc, _+_, _-_, _%_}
-use mathlib.Core.Bool.{Bool, true, not, _&&_, _||_}
+use mathlib.Core.Bool.{Bool, true, false, not, _&&_, _||_}
 use mathlib.Core.List.{List, [], _∷_}
 use lib.Dec.{leb, ltb, eqb}
 use lib.ListN.{length, getD, take}
@@ -38,15 +38,17 @@ abbrev pub isSound : Fault → Bool
 isSound f = eqb (faultNumber f) 0
 
 -- each count is at least 1 and at most its limit
-unfoldable pub within : List ℕ → List ℕ → Bool
-within [] ls = true
-within (x ∷ xs) [] = true
-within (x ∷ xs) (l ∷ ls) = leb 1 x && leb x l && within xs ls
+unfoldable pub inLimits : List ℕ → List ℕ → Bool
+inLimits [] [] = true
+inLimits [] (l ∷ ls) = false
+inLimits (x ∷ xs) [] = false
+inLimits (x ∷ xs) (l ∷ ls) = leb 1 x && leb x l && inLimits xs ls
 
 -- each field is below its count
 unfoldable pub fieldsBelow : List ℕ → List ℕ → List ℕ → Bool
-fieldsBelow counts [] ks = true
-fieldsBelow counts (x ∷ xs) [] = true
+fieldsBelow counts [] [] = true
+fieldsBelow counts [] (k ∷ ks) = false
+fieldsBelow counts (x ∷ xs) [] = false
 fieldsBelow counts (x ∷ xs) (k ∷ ks) = ltb x (getD counts k 0) && fieldsBelow counts xs ks
 
 module _ (l : Layout) where
@@ -57,7 +59,7 @@ module _ (l : Layout) where
       if ltb (length b) 4 || not (eqb (lengthIn b + 2) (length b)) then Length else
       if not (same (kindIn b) (l .kind)) then Kind else
       if ltb (length b) (headSize l) || not (eqb ((length b - headSize l) % rowSize l) 0) then Cut else
-      if not (within (countsIn l b) (l .limits)) || ltb (l .rowLimit) (rowCount l b) then Limit else
+      if not (inLimits (countsIn l b) (l .limits)) || ltb (l .rowLimit) (rowCount l b) then Limit else
       Sound
 
   -- "A row's key is all its fields but next."

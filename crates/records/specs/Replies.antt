@@ -37,11 +37,9 @@ infixr 20 _orElse_
 unfoldable pub _orElse_ : Reply → Reply → Reply
 a orElse b = if refuses a then a else b
 
--- what reading finds, as a reply for record 1, 2 or 3
+-- what reading finds, as a reply for record "1 context, 2 specification, 3 controller"
 unfoldable pub faultReply : ℕ → Fault → Reply
-faultReply table f = refusal (faultNumber f) table (faultRow f) 0
+faultReply table f = if isSound f then fine else refusal (faultNumber f) table (faultRow f) 0
 
 unfoldable pub recordRefusal : ℕ → Layout → List ℕ → Reply
-recordRefusal table l b =
-    let f : Fault = fault l b in
-    if isSound f then fine else faultReply table f
+recordRefusal table l b = faultReply table (fault l b)

@@ -1,13 +1,18 @@
 -- Document 01, "Signals and tables": the two tables of a skid, as they were read.
 -- Assumes nothing.
 use Prim.Native.Nat.{ℕ, _+_, _*_, _/_, _%_}
-use mathlib.Core.Option.{Option}
-use mathlib.Core.List.{List}
-use lib.ListN.{getD}
-use Rattle.pairs.specs.Scans.{left}
+use mathlib.Core.Bool.{Bool, _&&_}
+use mathlib.Core.Option.{Option, none, some}
+use mathlib.Core.List.{List, []}
+use lib.Dec.{ltb, eqb}
+use lib.ListN.{length, getD}
+use Rattle.pairs.specs.Scans.{if_then_else_, firstPlace, left}
+use Rattle.pairs.specs.Sets.{specificationOf}
+use Rattle.records.specs.declared.Counts.{Counts}
 use Rattle.records.specs.Limits.{absent}
 use Rattle.records.specs.Layouts.{contextLayout, specificationLayout, controllerLayout}
-use Rattle.records.specs.Records.{countsIn, rowsIn}
+use Rattle.records.specs.Records.{rowsIn}
+use Rattle.records.specs.Counts.{contextCounts, specificationCounts, controllerCounts}
 use Rattle.records.specs.NextTables.{stepPlace, there, tableOf}
 
 -- the counts I, O, U, V, the context's states, the specification's states; the context's rows; the specification as a next table
@@ -22,43 +27,70 @@ pub record Skid : Type 0 where
   pub specification : List ℕ
 
 -- a context row is "(state, i, v, u, o, next)"
-abbrev pub cState : List ℕ → ℕ
-cState r = getD r 0 0
+abbrev pub rowState : List ℕ → ℕ
+rowState r = getD r 0 0
 
-abbrev pub cI : List ℕ → ℕ
-cI r = getD r 1 0
+abbrev pub rowI : List ℕ → ℕ
+rowI r = getD r 1 0
 
-abbrev pub cV : List ℕ → ℕ
-cV r = getD r 2 0
+abbrev pub rowV : List ℕ → ℕ
+rowV r = getD r 2 0
 
-abbrev pub cU : List ℕ → ℕ
-cU r = getD r 3 0
+abbrev pub rowU : List ℕ → ℕ
+rowU r = getD r 3 0
 
-abbrev pub cO : List ℕ → ℕ
-cO r = getD r 4 0
+abbrev pub rowO : List ℕ → ℕ
+rowO r = getD r 4 0
 
-abbrev pub cNext : List ℕ → ℕ
-cNext r = getD r 5 0
+abbrev pub rowNext : List ℕ → ℕ
+rowNext r = getD r 5 0
 
--- two records without fault, as a skid; "start state 0" in both
+-- a specification record without fault, as a next table; and a controller record
+unfoldable pub specificationTable : List ℕ → List ℕ
+specificationTable b =
+    let c : Counts = specificationCounts b in
+    tableOf (c .i) (c .o) (c .states) (rowsIn specificationLayout b)
+
+unfoldable pub controllerTable : List ℕ → List ℕ
+controllerTable b =
+    let c : Counts = controllerCounts b in
+    tableOf (c .u) (c .v) (c .states) (rowsIn controllerLayout b)
+
+-- two records without fault, as a skid
 unfoldable pub skidOf : List ℕ → List ℕ → Skid
-skidOf cb sb =
-    let c : List ℕ = countsIn contextLayout cb in
-    let s : List ℕ = countsIn specificationLayout sb in
+skidOf context specification =
+    let c : Counts = contextCounts context in
     record {
-      nI = getD c 0 0;
-      nO = getD c 1 0;
-      nU = getD c 2 0;
-      nV = getD c 3 0;
-      nA = getD c 4 0;
-      nC = getD s 2 0;
-      context = rowsIn contextLayout cb;
-      specification = tableOf (getD s 0 0) (getD s 1 0) (getD s 2 0) (rowsIn specificationLayout sb);
+      nI = c .i;
+      nO = c .o;
+      nU = c .u;
+      nV = c .v;
+      nA = c .states;
+      nC = specificationCounts specification .states;
+      context = rowsIn contextLayout context;
+      specification = specificationTable specification;
     }
+
+-- the context row with the key (a, i, v, u, o), by its number; the number of rows where there is none
+abbrev pub hasKey : ℕ → ℕ → ℕ → ℕ → ℕ → List ℕ → Bool
+hasKey a i v u o r = eqb (rowState r) a && (eqb (rowI r) i && (eqb (rowV r) v && (eqb (rowU r) u && eqb (rowO r) o)))
+
+unfoldable pub rowNumber : List (List ℕ) → ℕ → ℕ → ℕ → ℕ → ℕ → ℕ
+rowNumber rows a i v u o = firstPlace (hasKey a i v u o) rows
+
+-- where the context goes from a on i, v, u and o: the next of that row
+unfoldable pub contextNext : List (List ℕ) → ℕ → ℕ → ℕ → ℕ → ℕ → Option ℕ
+contextNext rows a i v u o =
+    let n : ℕ = rowNumber rows a i v u o in
+    if ltb n (length rows) then some (rowNext (getD rows n [])) else none
 
 -- "the specification row for its i and o": where the specification goes from c
 unfoldable pub specNext : Skid → ℕ → ℕ → ℕ → Option ℕ
 specNext k c i o = there (getD (k .specification) (stepPlace (k .nI) (k .nO) c i o) absent)
+
+-- where it goes by the context row r from the pair at place p
+abbrev pub rowSpecNext : Skid → ℕ → List ℕ → Option ℕ
+rowSpecNext k p r = specNext k (specificationOf (k .nC) p) (rowI r) (rowO r)
 
 -- a controller's letter (u, v) is the place u·V + v, so that letters are scanned "u upward and within u, v upward"
 abbrev pub letterAt : Skid → ℕ → ℕ → ℕ
@@ -75,17 +107,11 @@ letters k = left 0 (k .nU * k .nV)
 
 -- the letter of a context row
 abbrev pub rowLetter : Skid → List ℕ → ℕ
-rowLetter k r = letterAt k (cU r) (cV r)
+rowLetter k r = letterAt k (rowU r) (rowV r)
 
 -- where a controller's next table leads from state s by the letter t; 65535 where it does not
 abbrev pub nextAt : Skid → List ℕ → ℕ → ℕ → ℕ
 nextAt k next s t = getD next (s * (k .nU * k .nV) + t) absent
-
--- a controller record without fault, as a next table
-unfoldable pub controllerTable : List ℕ → List ℕ
-controllerTable b =
-    let c : List ℕ = countsIn controllerLayout b in
-    tableOf (getD c 0 0) (getD c 1 0) (getD c 2 0) (rowsIn controllerLayout b)
 
 -- the places of pairs
 unfoldable pub pairs : Skid → List ℕ

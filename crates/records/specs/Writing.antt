@@ -1,23 +1,27 @@
 -- Document 01, "The controller record is written from a start place in the caller's buffer onwards; all other bytes stay."
 -- Assumes nothing.
-use Prim.Native.Nat.{ℕ, suc, _+_, _*_}
-use mathlib.Core.Bool.{_&&_, _||_}
+use mathlib.Core.Path.{_≡_}
+use Prim.Native.Nat.{ℕ, _+_, _*_}
+use mathlib.Core.Bool.{not, _&&_, _||_}
 use mathlib.Core.List.{List, [], _∷_, _++_}
 use lib.Dec.{leb, ltb, eqb}
 use lib.ListN.{length, take, drop}
-use Rattle.pairs.specs.Scans.{if_then_else_}
+use Rattle.pairs.specs.Scans.{if_then_else_, firstPlace}
 use Rattle.records.specs.declared.Reply.{Reply}
 use Rattle.records.specs.Limits.{absent}
 use Rattle.records.specs.Layouts.{controllerLayout}
 use Rattle.records.specs.Records.{recordOf}
-use Rattle.records.specs.Faults.{within}
+use Rattle.records.specs.Faults.{inLimits}
 use Rattle.records.specs.Replies.{success, refusal, fine, refuses, unless, _orElse_}
 use Rattle.records.specs.NextTables.{listing}
 
 -- "the first place whose number is neither 65535 nor below states"; as many as the places where there is none
 unfoldable pub badPlace : ℕ → List ℕ → ℕ
-badPlace states [] = 0
-badPlace states (t ∷ ts) = let rest : ℕ = suc (badPlace states ts) in if eqb t absent || ltb t states then rest else 0
+badPlace states places = firstPlace (λ j. not (eqb j absent || ltb j states)) places
+
+pub record ControllerWriting : Type 0 where
+  pub reply : Reply
+  pub buffer : List ℕ
 
 -- "It takes U, V, states and the next table"
 module _ (nU nV states : ℕ) (next : List ℕ) where
@@ -35,18 +39,23 @@ module _ (nU nV states : ℕ) (next : List ℕ) where
   unfoldable pub placeRefusal : Reply
   placeRefusal = let bad : ℕ = badPlace states places in if ltb bad (length places) then refusal 5 3 bad 0 else fine
 
-  -- "Writing: 4, 10, 5."; "Refusal 10: the table lacks places, or too few bytes from the start place on, which may itself be past the end."
+  -- "Writing: 4, 10, 5."; 4 of the counts, since a table within them has no more than 8,192 places; "Refusal 10: the table lacks places, or too few bytes from the start place on, which may itself be past the end."
   unfoldable pub writeRefusal : List ℕ → ℕ → Reply
   writeRefusal buffer start =
-      unless (within (nU ∷ nV ∷ states ∷ []) (controllerLayout .limits)) 4 3 orElse
+      unless (inLimits (nU ∷ nV ∷ states ∷ []) (controllerLayout .limits)) 4 3 orElse
       unless (leb tableSize (length next) && leb (start + length controllerBytes) (length buffer)) 10 0 orElse
       placeRefusal
 
-  unfoldable pub writeController : List ℕ → ℕ → Reply
-  writeController buffer start = let refused : Reply = writeRefusal buffer start in if refuses refused then refused else success states 0
-
   -- "all other bytes stay"; "A refused write changes nothing."
-  unfoldable pub bufferWritten : List ℕ → ℕ → List ℕ
-  bufferWritten buffer start =
-      if refuses (writeRefusal buffer start) then buffer else
-      take start buffer ++ controllerBytes ++ drop (start + length controllerBytes) buffer
+  unfoldable pub writeController : List ℕ → ℕ → ControllerWriting
+  writeController buffer start =
+      let refused : Reply = writeRefusal buffer start in
+      let placed : List ℕ = take start buffer ++ controllerBytes ++ drop (start + length controllerBytes) buffer in
+      let done : ControllerWriting = record { reply = success states 0; buffer = placed } in
+      let stays : ControllerWriting = record { reply = refused; buffer = buffer } in
+      if refuses refused then stays else done
+
+-- what the function ensures, for every input: the reply and the buffer at the end are those of the definition
+pub record ControllerWritten (nU nV states : ℕ) (next buffer : List ℕ) (start : ℕ) (reply : Reply) (buffer′ : List ℕ) : Type 0 where
+  pub reply-is : reply ≡ writeController nU nV states next buffer start .reply
+  pub buffer-is : buffer′ ≡ writeController nU nV states next buffer start .buffer

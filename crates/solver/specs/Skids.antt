@@ -4,27 +4,29 @@ use Prim.Native.Nat.{ℕ, _-_, _*_}
 use mathlib.Core.Bool.{Bool, true, false, _&&_}
 use mathlib.Core.List.{List, [], _∷_, _++_, flatMap}
 use lib.Dec.{eqb}
-use lib.ListN.{length, getD, take, drop, replicate}
-use Rattle.pairs.specs.Scans.{all, any, first, count, left, find, same, less, total}
+use lib.ListN.{length, take, drop, replicate}
+use Rattle.pairs.specs.Scans.{all, any, firstPlace, upward, left, find, same, less, total}
 use Rattle.pairs.specs.Sets.{member, join, add, pairLimit}
-use Rattle.pairs.specs.Lent.{filled, encoded, encodedSets}
+use Rattle.pairs.specs.Lent.{filled, setSize, encoded, encodedSets}
 use Rattle.records.specs.declared.Reply.{Reply}
+use Rattle.records.specs.declared.Counts.{Counts}
 use Rattle.records.specs.Limits.{stateLimit, setNumbers, nextNumbers}
 use Rattle.records.specs.Layouts.{contextLayout, specificationLayout}
 use Rattle.records.specs.Bytes.{little, numbers}
-use Rattle.records.specs.Records.{countsIn, rowsOf}
-use Rattle.records.specs.Faults.{within, fieldsBelow, headFault, rowFault, rowsFault, fault}
+use Rattle.records.specs.Records.{rowsOf}
+use Rattle.records.specs.Counts.{contextCounts}
+use Rattle.records.specs.Faults.{inLimits, fieldsBelow, headFault, rowFault, rowsFault, fault}
 use Rattle.records.specs.Replies.{unless, _orElse_, faultReply, recordRefusal}
 use Rattle.records.specs.NextTables.{tableOf, listing}
-use Rattle.records.specs.Tables.{skidOf, specNext, letters, pairs}
-use Rattle.records.specs.Matching.{skidRefusal, codesAgree, productFits, codesRefusal, productRefusal}
+use Rattle.records.specs.Tables.{specificationTable, skidOf, specNext, letters, pairs}
+use Rattle.records.specs.Matching.{skidRefusal, outsideAgree, productFits, outsideRefusal, productRefusal}
 use Rattle.records.specs.Discover.{meet, scan, discover}
 use Rattle.records.specs.Continues.{everyInput, answers, continuesOn, continues}
 use Rattle.records.specs.Skids.{Case, Solving}
 use Rattle.solver.specs.Plain.{reached, byRow, byPair, after, startSet, plain}
 use Rattle.solver.specs.Rounds.{sameKept, round, deletion, lasting}
-use Rattle.solver.specs.Unblocked.{passes, unblocked, afresh, setsOf}
-use Rattle.solver.specs.Solve.{plainSolution, unblockedSolution, solutionOf, solution, solveRefusal, solve, setsSolved, nextSolved}
+use Rattle.solver.specs.Unblocked.{setsOf, passes, unblocked, afresh}
+use Rattle.solver.specs.Solve.{SolveOutcome, plainSolution, unblockedSolution, solutionOf, solution, solveRefusal, solved, solveFor, solveBy, solve}
 
 unfoldable pub sameRows : List (List ℕ) → List (List ℕ) → Bool
 sameRows [] [] = true
@@ -33,15 +35,13 @@ sameRows (x ∷ xs) [] = false
 sameRows (x ∷ xs) (y ∷ ys) = same x y && sameRows xs ys
 
 unfoldable pub solves : Case → Solving → Bool
-unfolding sameRows all any first count left find same less total member join add pairLimit filled encoded encodedSets flatMap stateLimit setNumbers nextNumbers contextLayout specificationLayout little numbers rowsOf within fieldsBelow headFault rowFault rowsFault fault unless _orElse_ faultReply recordRefusal tableOf listing skidOf specNext letters pairs skidRefusal codesAgree productFits codesRefusal productRefusal meet scan discover everyInput answers continuesOn continues reached byRow byPair after startSet plain sameKept round deletion lasting passes unblocked afresh setsOf plainSolution unblockedSolution solutionOf solution solveRefusal solve setsSolved nextSolved
+unfolding sameRows all any firstPlace upward left find same less total member join add pairLimit filled setSize encoded encodedSets flatMap stateLimit setNumbers nextNumbers contextLayout specificationLayout little numbers rowsOf inLimits fieldsBelow headFault rowFault rowsFault fault unless _orElse_ faultReply recordRefusal tableOf listing specificationTable skidOf specNext letters pairs skidRefusal outsideAgree productFits outsideRefusal productRefusal meet scan discover everyInput answers continuesOn continues reached byRow byPair after startSet plain sameKept round deletion lasting passes unblocked afresh setsOf plainSolution unblockedSolution solutionOf solution solveRefusal solved solveFor solveBy solve
 solves c w =
-    let lentSets : List ℕ = replicate 514 7 in
-    let lentNext : List ℕ = replicate 8195 9 in
-    let reply : Reply = solve (w .mode) (c .context) (c .specification) lentSets lentNext in
-    let next : List ℕ = nextSolved (w .mode) (c .context) (c .specification) lentSets lentNext in
-    let counts : List ℕ = countsIn contextLayout (c .context) in
-    let size : ℕ = w .states * (getD counts 2 0 * getD counts 3 0) in
+    let outcome : SolveOutcome = solve (w .mode) (c .context) (c .specification) (replicate 514 7) (replicate 8195 9) in
+    let reply : Reply = outcome .reply in
+    let counts : Counts = contextCounts (c .context) in
+    let size : ℕ = w .states * (counts .u * counts .v) in
     eqb (reply .number) (w .number) && eqb (reply .«record») 0 && eqb (reply .row) 0 && eqb (reply .states) (w .states) && eqb (reply .rounds) (w .rounds) &&
-    same (setsSolved (w .mode) (c .context) (c .specification) lentSets lentNext) (w .sets ++ (replicate (512 - length (w .sets)) 0 ++ (7 ∷ 7 ∷ []))) &&
-    sameRows (listing (getD counts 2 0) (getD counts 3 0) 0 (take size next)) (w .rows) &&
-    same (drop size next) (replicate (8192 - size) 0 ++ (9 ∷ 9 ∷ 9 ∷ []))
+    same (outcome .sets) (w .sets ++ (replicate (512 - length (w .sets)) 0 ++ (7 ∷ 7 ∷ []))) &&
+    sameRows (listing (counts .u) (counts .v) 0 (take size (outcome .next))) (w .rows) &&
+    same (drop size (outcome .next)) (replicate (8192 - size) 0 ++ (9 ∷ 9 ∷ 9 ∷ []))

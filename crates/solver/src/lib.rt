@@ -1,10 +1,15 @@
 // The plain answer and the unblocked answer.
-ghost use Rattle.solver.specs.Solve.{WantedBy};
+ghost use Rattle.solver.specs.Solve.{ModeOf};
 
-// The answer that a mode asks for.
+// The answers that can be asked for.
 pub enum Wanted {
     Plain,
     Unblocked,
+}
+
+// What a mode number asks for.
+pub enum Mode {
+    Known(Wanted),
     Unknown,
 }
 
@@ -12,16 +17,16 @@ pub enum Wanted {
 pub enum Answer {
     Table(u32, u32),
     TooMany,
-    Nothing(u32),
+    None(u32),
 }
 
-// The answer that a mode number asks for.
-pub fn wanted_by(mode: u32) -> Wanted
-    ensures { λ r. ⌜ WantedBy mode r ⌝ }
+// What a mode number asks for.
+pub fn mode_of(number: u32) -> Mode
+    ensures { λ r. ⌜ ModeOf number r ⌝ }
 {
-    match mode {
-        0 => Wanted::Plain,
-        1 => Wanted::Unblocked,
-        _ => Wanted::Unknown,
+    match number {
+        0 => Mode::Known(Wanted::Plain),
+        1 => Mode::Known(Wanted::Unblocked),
+        _ => Mode::Unknown,
     }
 }

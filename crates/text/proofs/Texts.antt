@@ -8,12 +8,13 @@ use Rattle.pairs.specs.Scans.{same, less, total}
 use Rattle.records.specs.Layouts.{contextLayout, specificationLayout}
 use Rattle.records.specs.Bytes.{little, numbers}
 use Rattle.records.specs.Records.{rowsOf}
-use Rattle.records.specs.Faults.{within, fieldsBelow, headFault, rowFault, rowsFault, fault}
+use Rattle.records.specs.Faults.{inLimits, fieldsBelow, headFault, rowFault, rowsFault, fault}
 use Rattle.records.specs.Replies.{success, unless, _orElse_, faultReply, recordRefusal}
 use Rattle.records.specs.Matching.{skidRefusal}
-use Rattle.records.specs.Limits.{setNumbers, nextNumbers}
+use Rattle.records.specs.Limits.{stateLimit, setNumbers, nextNumbers}
+use Rattle.pairs.specs.Lent.{setSize}
 use Rattle.fit.specs.Check.{checkRefusal, check}
-use Rattle.solver.specs.Solve.{solveRefusal, solve, setsSolved, nextSolved}
+use Rattle.solver.specs.Solve.{solveRefusal, solveFor, solveBy, solve}
 use Rattle.text.specs.Lines.{decimal, digits, line, statesWord, roundsWord, refusedWord, recordWord, rowWord, fitsWord, refusedText, solvedText, checkedText}
 use Rattle.text.specs.Inputs.{solveLimit, fitLimit, recordEnd, firstRecord, behind}
 use Rattle.text.specs.Programs.{solvePrinted, solveText, fitText}
@@ -54,7 +55,7 @@ solves : (solveText (replicate 28690 0)
     ∷ refusedLine one 1
     ∷ refusedLine one 2
     ∷ []
-unfolding one thirteen same less total setNumbers nextNumbers contextLayout specificationLayout little numbers rowsOf within fieldsBelow headFault rowFault rowsFault fault unless _orElse_ faultReply recordRefusal skidRefusal solveRefusal solve setsSolved nextSolved decimal digits line statesWord roundsWord refusedWord recordWord rowWord refusedText solvedText solveLimit recordEnd firstRecord behind solvePrinted solveText
+unfolding one thirteen same less total stateLimit setSize setNumbers nextNumbers contextLayout specificationLayout little numbers rowsOf inLimits fieldsBelow headFault rowFault rowsFault fault unless _orElse_ faultReply recordRefusal skidRefusal solveRefusal solveFor solveBy solve decimal digits line statesWord roundsWord refusedWord recordWord rowWord refusedText solvedText solveLimit recordEnd firstRecord behind solvePrinted solveText
 solves = refl
 
 -- one byte too many; no byte at all; a context and no specification; a context, a specification and no controller
@@ -68,5 +69,5 @@ checks : (fitText (replicate 77849 0)
     ∷ refusedLine one 2
     ∷ refusedLine one 3
     ∷ []
-unfolding one same less total setNumbers contextLayout specificationLayout little numbers rowsOf within fieldsBelow headFault rowFault rowsFault fault unless _orElse_ faultReply recordRefusal skidRefusal checkRefusal check decimal digits line roundsWord refusedWord recordWord rowWord refusedText checkedText fitLimit recordEnd firstRecord behind fitText
+unfolding one same less total stateLimit setSize setNumbers contextLayout specificationLayout little numbers rowsOf inLimits fieldsBelow headFault rowFault rowsFault fault unless _orElse_ faultReply recordRefusal skidRefusal checkRefusal check decimal digits line roundsWord refusedWord recordWord rowWord refusedText checkedText fitLimit recordEnd firstRecord behind fitText
 checks = refl

@@ -1,4 +1,4 @@
-pub mod Lines
 pub mod Inputs
+pub mod Lines
 pub mod Programs
 pub mod Skids

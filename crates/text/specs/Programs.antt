@@ -6,11 +6,11 @@ use lib.Dec.{ltb, eqb}
 use lib.ListN.{length, getD, drop, replicate}
 use Rattle.pairs.specs.Scans.{if_then_else_}
 use Rattle.records.specs.Limits.{setNumbers, nextNumbers}
-use Rattle.records.specs.Layouts.{contextLayout}
-use Rattle.records.specs.Records.{countsIn}
+use Rattle.records.specs.declared.Counts.{Counts}
+use Rattle.records.specs.Counts.{contextCounts}
 use Rattle.records.specs.Replies.{refusal}
 use Rattle.fit.specs.Check.{check}
-use Rattle.solver.specs.Solve.{solve, nextSolved}
+use Rattle.solver.specs.Solve.{SolveOutcome, solve}
 use Rattle.text.specs.Lines.{refusedText, solvedText, checkedText}
 use Rattle.text.specs.Inputs.{solveLimit, fitLimit, firstRecord, behind}
 
@@ -19,11 +19,10 @@ zeros n = replicate n 0
 
 -- "one mode byte, context record, specification record"
 unfoldable pub solvePrinted : ℕ → List ℕ → List ℕ → List ℕ
-solvePrinted mode cb sb =
-    let counts : List ℕ = countsIn contextLayout cb in
-    solvedText (getD counts 2 0) (getD counts 3 0)
-    (solve mode cb sb (zeros setNumbers) (zeros nextNumbers))
-    (nextSolved mode cb sb (zeros setNumbers) (zeros nextNumbers))
+solvePrinted mode context specification =
+    let counts : Counts = contextCounts context in
+    let outcome : SolveOutcome = solve mode context specification (zeros setNumbers) (zeros nextNumbers) in
+    solvedText (counts .u) (counts .v) (outcome .reply) (outcome .next)
 
 -- "More than 28,689 bytes: refusal 1, record 0. Otherwise no byte at all: 13."
 unfoldable pub solveText : List ℕ → List ℕ
@@ -34,10 +33,10 @@ solveText input =
     if eqb (length input) 0 then refusedText (refusal 13 0 0 0) else
     answered
 
--- context record, specification record, controller record. More than 77,848 bytes: refusal 1, record 0
+-- `fit_table`: context record, specification record, controller record. More than 77,848 bytes: refusal 1, record 0
 unfoldable pub fitText : List ℕ → List ℕ
 fitText input =
     let rest : List ℕ = behind input in
-    let answered : List ℕ = checkedText (check (firstRecord input) (firstRecord rest) (behind rest) (zeros setNumbers)) in
+    let answered : List ℕ = checkedText (check (firstRecord input) (firstRecord rest) (behind rest) (zeros setNumbers) .reply) in
     if ltb fitLimit (length input) then refusedText (refusal 1 0 0 0) else
     answered

@@ -10,7 +10,7 @@ use native.Mathlib.Omega.{arith}
 use lib.Dec.{T}
 use lib.ListN.{length}
 use Rattle.words.specs.Words.{Runs, Words, _⊆_}
-use Rattle.words.specs.Skid.{Skid, Letter, Good}
+use Rattle.words.specs.System.{System, Letter, Good}
 use Rattle.words.specs.Sets.{SetAutomaton}
 use Rattle.words.specs.Deletion.{Finite, after, Rounds, Unblocked}
 use Rattle.words.specs.Renamed.{Renamed}
@@ -35,7 +35,7 @@ unfolding numbers
 numbers-length zero = refl
 numbers-length (suc n) = ap suc (numbers-length n)
 
-module _ (s : Skid) where
+module _ (s : System) where
   -- being good is a matter of the words alone
   pub good-same : (X Y : Words (Letter s)) → X ⊆ Y → Y ⊆ X → Good s X → Good s Y
   good-same X Y to from g = record {

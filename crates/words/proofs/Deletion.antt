@@ -9,7 +9,7 @@ use Prim.Native.Nat.{ℕ, zero, suc}
 use lib.Dec.{T}
 use mir.Facts.{and-yes, yes-and}
 use Rattle.words.specs.Words.{run, Runs, Words, _⊆_}
-use Rattle.words.specs.Skid.{Skid, Letter, letter, StaysWithin, TakesEverySignal, LeavesContinuation, Controller, Good}
+use Rattle.words.specs.System.{System, Letter, letter, StaysWithin, TakesEverySignal, LeavesContinuation, Controller, Good}
 use Rattle.words.specs.Sets.{Reached, StepLaw, SetAutomaton}
 use Rattle.words.specs.Deletion.{Passes, Finite, Through, round, after, Rounds, Unblocked}
 use Rattle.words.proofs.Words.{known, is-some, run-cons, first-step, runs-cons}
@@ -21,8 +21,8 @@ use Rattle.words.proofs.Subset.{startAt, joint-step, plain→runs, plai
 abbrev after-letter : {L : Type 0} → Words L → L → Words L
 after-letter X l w = X (l ∷ w)
 
-module _ (s : Skid) (m : SetAutomaton s) where
-  open Skid s using (U, R, In, Act, inp, face, A, a0, ctx, C, c0, spc, asked)
+module _ (s : System) (m : SetAutomaton s) where
+  open System s using (U, R, Input, Step, input, outside, A, a0, ctx, C, c0, spc, asked)
   open SetAutomaton m using (Q, ok, has, start, next, start-ok, next-ok, start-has, next-has)
 
   -- words through kept states
@@ -52,16 +52,16 @@ module _ (s : Skid) (m : SetAutomaton s) where
     through-signals (l ∷ w) q o h u =
         ∥∥₁-map (through-signals w (h .1) (next-ok q o l (h .1) (h .2)) (h .3) u) (λ t. (t .0, (h .0, h .1, h .2, t .1)))
 
-    through-continues : (α : List Act) (q : Q) (a : A) (c : C) → ok q → has q a c → Runs ctx a α → Through s m k q (map (letter s) α)
-        → (c′ : C) → run spc c (map face α) ≡ some c′ → (i : In) → asked c′ i
-        → ∥ ((x : Act) × (inp x ≡ i) × Runs ctx a (α ++ (x ∷ [])) × Through s m k q (map (letter s) (α ++ (x ∷ [])))) ∥₁
+    through-continues : (α : List Step) (q : Q) (a : A) (c : C) → ok q → has q a c → Runs ctx a α → Through s m k q (map (letter s) α)
+        → (c′ : C) → run spc c (map outside α) ≡ some c′ → (i : Input) → asked c′ i
+        → ∥ ((x : Step) × (input x ≡ i) × Runs ctx a (α ++ (x ∷ [])) × Through s m k q (map (letter s) (α ++ (x ∷ [])))) ∥₁
     through-continues [] q a c o h r t c′ e i want =
         ∥∥₁-map (passing q o t .continues a c h i (subst (λ c. asked c i) (sym (Option·some-injective c c′ e)) want))
         (λ t′. (t′ .0, t′ .2, runs-cons ctx [] (known (ctx a (t′ .0)) (t′ .3) .1) tt, (t, t′ .1, t′ .4, t′ .5)))
     through-continues (x ∷ α) q a c o h r t c′ e i want =
         let (a₁, step, r₁) = first-step ctx a x α r in
         let (c₁, row, h₁) = joint-step s m o (t .2) h step in
-        ∥∥₁-map (through-continues α (t .1) a₁ c₁ (next-ok q o (letter s x) (t .1) (t .2)) h₁ r₁ (t .3) c′ (sym (run-cons spc (map face α) row) ∙ e) i want)
+        ∥∥₁-map (through-continues α (t .1) a₁ c₁ (next-ok q o (letter s x) (t .1) (t .2)) h₁ r₁ (t .3) c′ (sym (run-cons spc (map outside α) row) ∙ e) i want)
         (λ t′. (t′ .0, t′ .1, runs-cons ctx (α ++ (t′ .0 ∷ [])) step (t′ .2), (t .0, t .1, t .2, t′ .3)))
 
     through-good : T (k start) → Good s (Through s m k start)
@@ -96,12 +96,12 @@ module _ (s : Skid) (m : SetAutomaton s) where
     controller = record { starts = x; closed = λ p z. g .controller .closed (l ∷ p) z };
     signals = λ w. g .signals (l ∷ w);
     within = λ a′ c′ h α r y. let t = from a′ c′ h in
-        subst IsSome (run-cons spc (map face α) (t .row))
+        subst IsSome (run-cons spc (map outside α) (t .row))
         (g .within (t .a) (t .c) (t .member) (t .x ∷ α) (runs-cons ctx α (t .step) r) (subst (λ l. X (l ∷ map (letter s) α)) (sym (t .over)) y));
     continues = λ a′ c′ h α r y c″ e′ i want. let t = from a′ c′ h in
         ∥∥₁-map
         (g .continues (t .a) (t .c) (t .member) (t .x ∷ α) (runs-cons ctx α (t .step) r) (subst (λ l. X (l ∷ map (letter s) α)) (sym (t .over)) y)
-        c″ (run-cons spc (map face α) (t .row) ∙ e′) i want)
+        c″ (run-cons spc (map outside α) (t .row) ∙ e′) i want)
         (λ n. (n .0, n .1, subst IsSome (run-cons ctx (α ++ (n .0 ∷ [])) (t .step)) (n .2), subst (λ l. X (l ∷ map (letter s) (α ++ (n .0 ∷ [])))) (t .over) (n .3)));
   }
     where

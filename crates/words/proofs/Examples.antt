@@ -16,20 +16,20 @@ use Rattle.words.specs.Fit.{Fits}
 use Rattle.words.proofs.Deletion.{good-part, unblocked-good}
 use Rattle.words.proofs.Answer.{table-good}
 use Rattle.words.proofs.Fit.{fits-iff-good}
-use Rattle.words.specs.Skid.{Skid, Letter, Good}
+use Rattle.words.specs.System.{System, Letter, Good}
 
 -- the context loops; the specification has the row for its step where b is true
-abbrev loop : Bool → Skid
+abbrev loop : Bool → System
 loop b = record {
   U = Unit {0};
   R = Unit {0};
-  In = Unit {0};
-  Act = Unit {0};
-  Face = Unit {0};
-  sig = λ x. tt;
-  rep = λ x. tt;
-  inp = λ x. tt;
-  face = λ x. tt;
+  Input = Unit {0};
+  Step = Unit {0};
+  Outside = Unit {0};
+  signal = λ x. tt;
+  reply = λ x. tt;
+  input = λ x. tt;
+  outside = λ x. tt;
   A = Unit {0};
   a0 = tt;
   ctx = λ a x. some tt;

@@ -6,7 +6,7 @@ use mathlib.Core.Logic.{_↔_, ∥∥₁-map}
 use mathlib.Core.Option.{Option, some, IsSome}
 use mathlib.Core.List.{List, [], _∷_, _++_, map, map-append}
 use Rattle.words.specs.Words.{run, Runs}
-use Rattle.words.specs.Skid.{Skid, Letter, letter, TakesEverySignal, StaysWithin, LeavesContinuation, Good}
+use Rattle.words.specs.System.{System, Letter, letter, TakesEverySignal, StaysWithin, LeavesContinuation, Good}
 use Rattle.words.specs.Fit.{Triple, Complete, Stays, Joins, Fits}
 use Rattle.words.proofs.Words.{known, is-some, run-last, first-step, runs-cons, runs-closed}
 
@@ -15,8 +15,8 @@ module _ {S L E : Type 0} (step : S → L → Option S) (s : S) (f : E → L) wh
   pub read-last : {t : S} (α : List E) (x : E) → run step s (map f α) ≡ some t → run step s (map f (α ++ (x ∷ []))) ≡ step t (f x)
   read-last α x e = ap (run step s) (map-append f α (x ∷ [])) ∙ run-last step s (map f α) (f x) e
 
-module _ (s : Skid) {D : Type 0} (step : D → Letter s → Option D) (d0 : D) where
-  open Skid s using (Act, face, A, a0, ctx, C, c0, spc)
+module _ (s : System) {D : Type 0} (step : D → Letter s → Option D) (d0 : D) where
+  open System s using (Step, outside, A, a0, ctx, C, c0, spc)
 
   pub complete-iff : Complete s step d0 ↔ TakesEverySignal s (Runs step d0)
   complete-iff = (
@@ -25,22 +25,22 @@ module _ (s : Skid) {D : Type 0} (step : D → Letter s → Option D) (d0 : D) w
   )
 
   -- one joint step further
-  unfoldable pub triple-last : {a a′ : A} {c c′ : C} {d d′ : D} (x : Act) → Triple s step d0 a c d → ctx a x ≡ some a′ → spc c (face x) ≡ some c′ → step d (letter s x) ≡ some d′ → Triple s step d0 a′ c′ d′
-  triple-last x t ea ec ed = (t .0 ++ (x ∷ []), run-last ctx a0 (t .0) x (t .1) ∙ ea, read-last spc c0 face (t .0) x (t .2) ∙ ec, read-last step d0 (letter s) (t .0) x (t .3) ∙ ed)
+  unfoldable pub triple-last : {a a′ : A} {c c′ : C} {d d′ : D} (x : Step) → Triple s step d0 a c d → ctx a x ≡ some a′ → spc c (outside x) ≡ some c′ → step d (letter s x) ≡ some d′ → Triple s step d0 a′ c′ d′
+  triple-last x t ea ec ed = (t .0 ++ (x ∷ []), run-last ctx a0 (t .0) x (t .1) ∙ ea, read-last spc c0 outside (t .0) x (t .2) ∙ ec, read-last step d0 (letter s) (t .0) x (t .3) ∙ ed)
 
   module _ (f : Stays s step d0) where
-    within-from : (α : List Act) (a : A) (c : C) (d : D) → Triple s step d0 a c d → Runs ctx a α → Runs step d (map (letter s) α) → Runs spc c (map face α)
+    within-from : (α : List Step) (a : A) (c : C) (d : D) → Triple s step d0 a c d → Runs ctx a α → Runs step d (map (letter s) α) → Runs spc c (map outside α)
     within-from [] a c d t ka kd = tt
     within-from (x ∷ α) a c d t ka kd =
         let (a′, ea, ka′) = first-step ctx a x α ka in
         let (d′, ed, kd′) = first-step step d (letter s x) (map (letter s) α) kd in
-        let (c′, ec) = known (spc c (face x)) (f a c d t x (is-some ea) (is-some ed)) in
-        runs-cons spc (map face α) ec (within-from α a′ c′ d′ (triple-last x t ea ec ed) ka′ kd′)
+        let (c′, ec) = known (spc c (outside x)) (f a c d t x (is-some ea) (is-some ed)) in
+        runs-cons spc (map outside α) ec (within-from α a′ c′ d′ (triple-last x t ea ec ed) ka′ kd′)
 
   pub stays-iff : Stays s step d0 ↔ StaysWithin s (Runs step d0)
   stays-iff = (
     λ f α k x. within-from f α a0 c0 d0 ([], refl, refl, refl) k x,
-    λ g a c d t x ha hd. subst IsSome (read-last spc c0 face (t .0) x (t .2))
+    λ g a c d t x ha hd. subst IsSome (read-last spc c0 outside (t .0) x (t .2))
         (g (t .0 ++ (x ∷ [])) (subst IsSome (sym (run-last ctx a0 (t .0) x (t .1))) ha) (subst IsSome (sym (read-last step d0 (letter s) (t .0) x (t .3))) hd)),
   )
 

@@ -7,7 +7,7 @@ use mathlib.Core.Option.{Option, none, some, Option·map, Option·none-ne-some, 
 use mathlib.Core.List.{List, [], _∷_}
 use lib.Dec.{T}
 use Rattle.words.specs.Words.{Runs}
-use Rattle.words.specs.Skid.{Skid, Letter}
+use Rattle.words.specs.System.{System, Letter}
 use Rattle.words.specs.Sets.{SetAutomaton}
 use Rattle.words.specs.Deletion.{Through}
 use Rattle.words.specs.Renamed.{ifKept, Renamed}
@@ -30,7 +30,7 @@ kept-still k q = go (k q)
     go true h = refl
     go false h = absurd h
 
-module _ (s : Skid) (m : SetAutomaton s) (k : m .Q → Bool) {D : Type 0} (step : D → Letter s → Option D) (d0 : D) (n : Renamed s m k step d0) where
+module _ (s : System) (m : SetAutomaton s) (k : m .Q → Bool) {D : Type 0} (step : D → Letter s → Option D) (d0 : D) (n : Renamed s m k step d0) where
   open SetAutomaton m using (Q, start, next)
   open Renamed n using (ok, old, start-ok, start-old, next-ok, next-old)
 

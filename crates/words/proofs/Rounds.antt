@@ -11,13 +11,13 @@ use lib.Dec.{T}
 use lib.ListN.{length}
 use mir.Facts.{and-yes}
 use Rattle.words.specs.Words.{Words, _⊆_}
-use Rattle.words.specs.Skid.{Skid, Letter, Good}
+use Rattle.words.specs.System.{System, Letter, Good}
 use Rattle.words.specs.Sets.{SetAutomaton}
 use Rattle.words.specs.Deletion.{Finite, after, Deletes, Rounds, Unblocked}
 use Rattle.words.proofs.Count.{kept-or-not, count, count-length, count-less, find}
 use Rattle.words.proofs.Deletion.{good-part, unblocked-good, none-iff-no-good}
 
-module _ (s : Skid) (m : SetAutomaton s) (f : Finite s m) where
+module _ (s : System) (m : SetAutomaton s) (f : Finite s m) where
   open SetAutomaton m using (Q, start)
   open Finite f using (states, listed, pass)
 

@@ -5,22 +5,22 @@ use mathlib.Core.Logic.{_↔_}
 use mathlib.Core.Option.{Option, none, some, IsSome}
 use mathlib.Core.List.{List, [], _∷_, _++_, map}
 use Rattle.words.specs.Words.{Runs, Words}
-use Rattle.words.specs.Skid.{Skid, Letter, letter, Plain}
+use Rattle.words.specs.System.{System, Letter, letter, Plain}
 use Rattle.words.specs.Sets.{Leaves, Reached, StepLaw, SetAutomaton}
 use Rattle.words.proofs.Words.{known, is-some, not-both, run-cons, first-step, runs-cons}
 
 -- the same skid, started in other states
-abbrev pub startAt : (s : Skid) → s .A → s .C → Skid
+abbrev pub startAt : (s : System) → s .A → s .C → System
 startAt s a c = record {
   U = s .U;
   R = s .R;
-  In = s .In;
-  Act = s .Act;
-  Face = s .Face;
-  sig = s .sig;
-  rep = s .rep;
-  inp = s .inp;
-  face = s .face;
+  Input = s .Input;
+  Step = s .Step;
+  Outside = s .Outside;
+  signal = s .signal;
+  reply = s .reply;
+  input = s .input;
+  outside = s .outside;
   A = s .A;
   a0 = a;
   ctx = s .ctx;
@@ -30,31 +30,31 @@ startAt s a c = record {
   asked = s .asked;
 }
 
-module _ (s : Skid) (m : SetAutomaton s) where
-  open Skid s using (Act, face, A, a0, ctx, C, c0, spc)
+module _ (s : System) (m : SetAutomaton s) where
+  open System s using (Step, outside, A, a0, ctx, C, c0, spc)
   open SetAutomaton m using (Q, ok, has, start, next, start-ok, next-ok, start-has, next-has)
 
   -- a present step: every step of the context over it has its row, and its set holds the pair reached
-  pub joint-step : {q q′ : Q} {a a′ : A} {c : C} {x : Act} → ok q → next q (letter s x) ≡ some q′ → has q a c → ctx a x ≡ some a′
-      → (c′ : C) × (spc c (face x) ≡ some c′) × has q′ a′ c′
-  joint-step {q} {q′} {a} {a′} {c} {x} k e h t = go (spc c (face x)) refl
+  pub joint-step : {q q′ : Q} {a a′ : A} {c : C} {x : Step} → ok q → next q (letter s x) ≡ some q′ → has q a c → ctx a x ≡ some a′
+      → (c′ : C) × (spc c (outside x) ≡ some c′) × has q′ a′ c′
+  joint-step {q} {q′} {a} {a′} {c} {x} k e h t = go (spc c (outside x)) refl
     where
       law : StepLaw s has q (letter s x) (some q′)
       law = subst (StepLaw s has q (letter s x)) e (next-has q k (letter s x))
 
-      go : (o : Option C) → spc c (face x) ≡ o → (c′ : C) × (spc c (face x) ≡ some c′) × has q′ a′ c′
+      go : (o : Option C) → spc c (outside x) ≡ o → (c′ : C) × (spc c (outside x) ≡ some c′) × has q′ a′ c′
       go none e′ = absurd (law .0 record { a = a; c = c; x = x; member = h; over = refl; step = is-some t; no-row = e′ })
       go (some c′) e′ = (c′, e′, law .1 a′ c′ .1 record { a = a; c = c; x = x; member = h; over = refl; step = t; row = e′ })
 
   -- what the automaton can run breaks nothing
-  runs→within : (α : List Act) (z : List (Letter s)) {q : Q} {a : A} {c : C} → ok q → has q a c → Runs ctx a α
-      → Runs next q (map (letter s) α ++ z) → Runs spc c (map face α)
+  runs→within : (α : List Step) (z : List (Letter s)) {q : Q} {a : A} {c : C} → ok q → has q a c → Runs ctx a α
+      → Runs next q (map (letter s) α ++ z) → Runs spc c (map outside α)
   runs→within [] z k h r n = tt
   runs→within (x ∷ α) z {q} {a} {c} k h r n =
       let (a′, t, r′) = first-step ctx a x α r in
       let (q′, e, n′) = first-step next q (letter s x) (map (letter s) α ++ z) n in
       let (c′, o, h′) = joint-step k e h t in
-      runs-cons spc (map face α) o (runs→within α z (next-ok q k (letter s x) q′ e) h′ r′ n′)
+      runs-cons spc (map outside α) o (runs→within α z (next-ok q k (letter s x) q′ e) h′ r′ n′)
 
   -- the word is plain from each pair of q on
   abbrev PlainAt : Q → Words (Letter s)
@@ -63,13 +63,13 @@ module _ (s : Skid) (m : SetAutomaton s) where
   plain-stays : {q : Q} {l : Letter s} {w : List (Letter s)} → PlainAt q (l ∷ w) → ¬ Leaves s (has q) l
   plain-stays {q} {l} {w} h v =
       let (a′, e) = known (ctx (v .a) (v .x)) (v .step) in
-      let r : Runs spc (v .c) (face (v .x) ∷ []) = h (v .a) (v .c) (v .member) (l ∷ []) w refl (v .x ∷ []) (runs-cons ctx [] e tt) (ap (λ l. l ∷ []) (v .over)) in
-      let (c′, e′, u) = first-step spc (v .c) (face (v .x)) [] r in
+      let r : Runs spc (v .c) (outside (v .x) ∷ []) = h (v .a) (v .c) (v .member) (l ∷ []) w refl (v .x ∷ []) (runs-cons ctx [] e tt) (ap (λ l. l ∷ []) (v .over)) in
+      let (c′, e′, u) = first-step spc (v .c) (outside (v .x)) [] r in
       not-both (is-some e′) (v .no-row)
 
   -- and after a joint step its rest is plain from the pair reached
   plain-step : {q : Q} {l : Letter s} {w : List (Letter s)} {a′ : A} {c′ : C} → PlainAt q (l ∷ w) → Reached s (has q) l a′ c′ → Plain (startAt s a′ c′) w
-  plain-step {l = l} h v p z b α k over = subst IsSome (run-cons spc (map face α) (v .row))
+  plain-step {l = l} h v p z b α k over = subst IsSome (run-cons spc (map outside α) (v .row))
       (h (v .a) (v .c) (v .member) (l ∷ p) z (ap (λ w. l ∷ w) b) (v .x ∷ α) (runs-cons ctx α (v .step) k) (ap₂ _∷_ (v .over) over))
 
   pub plain→runs : (w : List (Letter s)) (q : Q) → ok q → ((a : A) (c : C) → has q a c → Plain (startAt s a c) w) → Runs next q w

@@ -8,19 +8,19 @@ use mathlib.Core.List.{List, [], _∷_, List·Memᴰ}
 use Prim.Native.Nat.{ℕ, zero, suc, _<_}
 use lib.Dec.{T}
 use Rattle.words.specs.Words.{Words}
-use Rattle.words.specs.Skid.{Skid, Letter, letter}
+use Rattle.words.specs.System.{System, Letter, letter}
 use Rattle.words.specs.Sets.{SetAutomaton}
 
-module _ (s : Skid) (m : SetAutomaton s) where
-  open Skid s using (U, R, In, Act, inp, A, ctx, C, asked)
+module _ (s : System) (m : SetAutomaton s) where
+  open System s using (U, R, Input, Step, input, A, ctx, C, asked)
   open SetAutomaton m using (Q, ok, has, start, next)
 
   -- "A kept state passes if (i) for each u there is a v whose next state is kept, and (ii) for each of its pairs and each i below I there is a
   -- context row from a on i whose (u, v) is present and leads to a kept state."
   pub record Passes (kept : Q → Bool) (q : Q) : Type 0 where
     pub replies : (u : U) → ∥ ((r : R) × (q′ : Q) × (next q (u, r) ≡ some q′) × T (kept q′)) ∥₁
-    pub continues : (a : A) (c : C) → has q a c → (i : In) → asked c i
-        → ∥ ((x : Act) × (q′ : Q) × (inp x ≡ i) × IsSome (ctx a x) × (next q (letter s x) ≡ some q′) × T (kept q′)) ∥₁
+    pub continues : (a : A) (c : C) → has q a c → (i : Input) → asked c i
+        → ∥ ((x : Step) × (q′ : Q) × (input x ≡ i) × IsSome (ctx a x) × (next q (letter s x) ≡ some q′) × T (kept q′)) ∥₁
 
   -- the states in a list, and a test that decides which of them pass
   pub record Finite : Type 0 where

@@ -1,5 +1,5 @@
 pub mod Words
-pub mod Skid
+pub mod System
 pub mod Sets
 pub mod Deletion
 pub mod Renamed

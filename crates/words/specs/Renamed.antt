@@ -3,7 +3,7 @@
 use mathlib.Core.Path.{_≡_}
 use mathlib.Core.Bool.{Bool, cond}
 use mathlib.Core.Option.{Option, none, some, Option·map}
-use Rattle.words.specs.Skid.{Skid, Letter}
+use Rattle.words.specs.System.{System, Letter}
 use Rattle.words.specs.Sets.{SetAutomaton}
 
 -- a next state, where it is kept
@@ -11,7 +11,7 @@ abbrev pub ifKept : {Q : Type 0} → (Q → Bool) → Option Q → Option Q
 ifKept kept none = none
 ifKept kept (some q) = cond (kept q) (some q) none
 
-module _ (s : Skid) (m : SetAutomaton s) where
+module _ (s : System) (m : SetAutomaton s) where
   open SetAutomaton m using (Q, start, next)
 
   -- `old` gives the state that a new name stands for: each step of the table is the step of the automaton to a kept state, or both are absent

@@ -3,30 +3,30 @@
 use mathlib.Core.Path.{_≡_}
 use mathlib.Core.Logic.{_↔_}
 use mathlib.Core.Option.{Option, none, some, IsSome}
-use Rattle.words.specs.Skid.{Skid, Letter, letter}
+use Rattle.words.specs.System.{System, Letter, letter}
 
-module _ (s : Skid) where
-  open Skid s using (Act, face, A, a0, ctx, C, c0, spc)
+module _ (s : System) where
+  open System s using (Step, outside, A, a0, ctx, C, c0, spc)
 
   -- "some such context row has no specification row": from a pair of P the context has a step x over l, and the specification has none for it
   pub record Leaves (P : A → C → Type 0) (l : Letter s) : Type 0 where
     pub a : A
     pub c : C
-    pub x : Act
+    pub x : Step
     pub member : P a c
     pub over : letter s x ≡ l
     pub step : IsSome (ctx a x)
-    pub no-row : spc c (face x) ≡ none
+    pub no-row : spc c (outside x) ≡ none
 
   -- the pair (a′, c′) is "reached from a pair by a context row with that u and v and the specification row for its i and o"
   pub record Reached (P : A → C → Type 0) (l : Letter s) (a′ : A) (c′ : C) : Type 0 where
     pub a : A
     pub c : C
-    pub x : Act
+    pub x : Step
     pub member : P a c
     pub over : letter s x ≡ l
     pub step : ctx a x ≡ some a′
-    pub row : spc c (face x) ≡ some c′
+    pub row : spc c (outside x) ≡ some c′
 
   -- "If some such context row has no specification row, (u, v) is absent"; else "The set after (u, v) holds all pairs reached"
   abbrev pub StepLaw : {Q : Type 0} → (Q → A → C → Type 0) → Q → Letter s → Option Q → Type 0

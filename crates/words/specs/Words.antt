@@ -34,23 +34,23 @@ PrefixClosed {L} X = (p z : List L) → X (p ++ z) → X p
 abbrev pub Complement : {L : Type 0} → Words L → Words L
 Complement X w = ¬ X w
 
--- "P is the largest prefix-closed part of Q"
+-- P is "the largest prefix-closed part of" Q
 pub record LargestPrefixClosedPart {L : Type 0} (P Q : Words L) : Type 1 where
   pub closed : PrefixClosed P
   pub part : P ⊆ Q
   pub largest : (X : Words L) → PrefixClosed X → X ⊆ Q → X ⊆ P
 
--- Act are the steps (i, u, v, o): `letter` is what stays when i and o are dropped, `face` what stays when u and v are dropped.
+-- Step holds the steps (i, u, v, o): `letter` is what stays when i and o are dropped, `outside` what stays when u and v are dropped.
 -- Context holds the combined words, Specification the outside words that the specification can run.
-module _ {Act L Face : Type 0} (letter : Act → L) (face : Act → Face) (Context : Words Act) (Specification : Words Face) where
+module _ {Step L Outside : Type 0} (letter : Step → L) (outside : Step → Outside) (Context : Words Step) (Specification : Words Outside) where
   -- X "joined to the context, stays within the specification": so does every combined word over a word of X
   abbrev pub JoinedStaysWithin : Words L → Type 0
-  JoinedStaysWithin X = (α : List Act) → Context α → X (map letter α) → Specification (map face α)
+  JoinedStaysWithin X = (α : List Step) → Context α → X (map letter α) → Specification (map outside α)
 
   -- "all controller words such that for the word and each beginning of it, every combined word over that beginning stays within the specification"
   abbrev pub PlainOf : Words L
-  PlainOf w = (p z : List L) → p ++ z ≡ w → (α : List Act) → Context α → map letter α ≡ p → Specification (map face α)
+  PlainOf w = (p z : List L) → p ++ z ≡ w → (α : List Step) → Context α → map letter α ≡ p → Specification (map outside α)
 
   -- "context composed with the complement of the specification": the controller words over which some combined word leaves it
   abbrev pub Breaking : Words L
-  Breaking w = (α : List Act) × Context α × (map letter α ≡ w) × (¬ Specification (map face α))
+  Breaking w = (α : List Step) × Context α × (map letter α ≡ w) × (¬ Specification (map outside α))
