@@ -39,7 +39,8 @@ module _ (nU nV states : ℕ) (next : List ℕ) where
   unfoldable pub placeRefusal : Reply
   placeRefusal = let bad : ℕ = badPlace states places in if ltb bad (length places) then refusal 5 3 bad 0 else fine
 
-  -- "Writing: 4, 10, 5."; 4 of the counts, since a table within them has no more than 8,192 places; "Refusal 10: the table lacks places, or too few bytes from the start place on, which may itself be past the end."
+  -- "Writing: 4, 10, 5." 4 is of the counts alone: a table within their limits has no more than 8,192 places. "Refusal 10: the table lacks
+  -- places, or too few bytes from the start place on, which may itself be past the end."
   unfoldable pub writeRefusal : List ℕ → ℕ → Reply
   writeRefusal buffer start =
       unless (inLimits (nU ∷ nV ∷ states ∷ []) (controllerLayout .limits)) 4 3 orElse
