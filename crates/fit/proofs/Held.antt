@@ -23,7 +23,7 @@ module _ (k : Skid) (legal : Legal k) (states : ℕ) (next sets : List ℕ) (tes
   ofPair s p = if member p (getD sets s 0) then test s p else false
 
   -- some triple passes the test exactly if a triple that is held does
-  pub any-triple : T (anyTriple k states next sets test) ↔ ((a : ℕ) × (c : ℕ) × (d : ℕ) × Held k states sets a c d × T (test d (pairPlace (k .nC) a c)))
+  pub any-triple : T (anyTriple k states sets test) ↔ ((a : ℕ) × (c : ℕ) × (d : ℕ) × Held k states sets a c d × T (test d (pairPlace (k .nC) a c)))
   any-triple = (
     λ t. let (s, ms, t₁) = any-yes (λ s. any (ofPair s) (pairs k)) (left 0 states) t in
         let (p, mp, t₂) = any-yes (ofPair s) (pairs k) t₁ in

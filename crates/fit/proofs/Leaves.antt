@@ -2,7 +2,7 @@
 -- Assumes nothing.
 use mathlib.Core.Path.{_≡_, refl, subst}
 use mathlib.Core.Logic.{_↔_}
-use mathlib.Core.Bool.{Bool, false}
+use mathlib.Core.Bool.{Bool, false, not}
 use mathlib.Core.Option.{Option, none, some, IsSome, Option·some-ne-none}
 use mathlib.Core.List.{List}
 use Prim.Native.Nat.{ℕ, _<_}
@@ -14,17 +14,18 @@ use Rattle.pairs.specs.Scans.{if_then_else_, any}
 use Rattle.pairs.specs.Sets.{pairPlace}
 use Rattle.pairs.proofs.Scans.{both-yes, yes-both, any-yes, yes-any}
 use Rattle.pairs.proofs.Sets.{pair-context, pair-specification}
+use Rattle.records.specs.NextTables.{isPresent}
 use Rattle.records.specs.Tables.{Skid, rowI, rowO, rowNext, specNext, rowSpecNext}
 use Rattle.records.specs.Meaning.{NextTable, Legal, system, tableStep}
 use Rattle.records.proofs.Rows.{action}
 use Rattle.fit.specs.Triples.{jointRow, triples}
-use Rattle.fit.specs.Verdict.{isNone, leaves}
+use Rattle.fit.specs.Verdict.{leaves}
 use Rattle.fit.proofs.Sweep.{Held}
 use Rattle.fit.proofs.Rows.{row-joint, joint-row}
 use Rattle.fit.proofs.Held.{any-triple}
 use Rattle.fit.proofs.Triples.{triples-exactly}
 
-none-yes : (o : Option ℕ) → T (isNone o) ↔ (o ≡ none)
+none-yes : (o : Option ℕ) → T (not (isPresent o)) ↔ (o ≡ none)
 none-yes none = (λ t. refl, λ e. tt)
 none-yes (some x) = (λ t. absurd t, λ e. absurd (Option·some-ne-none x e))
 
@@ -45,14 +46,14 @@ module _ (k : Skid) (asked : ℕ → ℕ → Bool) (states : ℕ) (next : List �
     pub no-row : system k asked .spc c (system k asked .outside x) ≡ none
 
   abbrev lacks : ℕ → ℕ → List ℕ → Bool
-  lacks s p r = if jointRow k next s p r then isNone (rowSpecNext k p r) else false
+  lacks s p r = if jointRow k next s p r then not (isPresent (rowSpecNext k p r)) else false
 
   pub leaves-law : Legal k → (sets : List ℕ) → T (leaves k states next sets) ↔ Leaving (Held k states sets)
   unfolding leaves
   leaves-law legal sets = (
     λ t. let (a, c, d, h, t₁) = any-triple k legal states next sets (λ s p. any (lacks s p) (k .context)) .0 t in
         let (r, m, t₂) = any-yes (lacks d (pairPlace (k .nC) a c)) (k .context) t₁ in
-        let (j, t₃) = both-yes (jointRow k next d (pairPlace (k .nC) a c) r) (isNone (rowSpecNext k (pairPlace (k .nC) a c) r)) t₂ in
+        let (j, t₃) = both-yes (jointRow k next d (pairPlace (k .nC) a c) r) (not (isPresent (rowSpecNext k (pairPlace (k .nC) a c) r))) t₂ in
         let (ctx, ctl) = row-joint k asked states next legal d (pairPlace (k .nC) a c) r m j in
         record {
           a = a;
@@ -74,7 +75,7 @@ module _ (k : Skid) (asked : ℕ → ℕ → Bool) (states : ℕ) (next : List �
           f .d,
           f .from,
           yes-any (lacks (f .d) (pairPlace (k .nC) (f .a) (f .c))) (k .context) (j .row) (j .is-row)
-              (yes-both (jointRow k next (f .d) (pairPlace (k .nC) (f .a) (f .c)) (j .row)) (isNone (rowSpecNext k (pairPlace (k .nC) (f .a) (f .c)) (j .row))) (j .joint)
+              (yes-both (jointRow k next (f .d) (pairPlace (k .nC) (f .a) (f .c)) (j .row)) (not (isPresent (rowSpecNext k (pairPlace (k .nC) (f .a) (f .c)) (j .row)))) (j .joint)
               (none-yes (rowSpecNext k (pairPlace (k .nC) (f .a) (f .c)) (j .row)) .1 (rw (pair-specification (k .nC) (f .a) (f .c) hc, j .same-i, j .same-o) (f .no-row)))),
         ),
   )

@@ -1,4 +1,4 @@
--- K6's verdict and K12's three, computed.
+-- K6's verdict, K12's three, a state that nothing reaches, and a table with both faults, computed.
 -- Assumes nothing.
 use mathlib.Core.Path.{_≡_, refl}
 use mathlib.Core.List.{[]}

@@ -29,7 +29,7 @@ use Rattle.fit.proofs.Sweep.{Held, Further, sweep-law, sweep-length}
 -- n sweeps from the start
 module _ (k : Skid) (states : ℕ) (next : List ℕ) where
   abbrev pub swept : ℕ → List ℕ
-  swept zero = startSets k states next
+  swept zero = startSets k states
   swept (suc n) = sweep k states next (swept n)
 
 module _ (k : Skid) (asked : ℕ → ℕ → Bool) (next : List ℕ) where

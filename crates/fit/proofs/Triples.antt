@@ -153,7 +153,7 @@ module _ (k : Skid) (asked : ℕ → ℕ → Bool) (legal : Legal k) (states : �
   -- the fuel of the definition suffices
   triples-settled : Settled (triples k states next)
   unfolding triples
-  triples-settled = grown-settled _ (startSets k states next) (swept-length k asked legal states next table 0) (omega arith)
+  triples-settled = grown-settled _ (startSets k states) (swept-length k asked legal states next table 0) (omega arith)
 
   triples-swept : (n : ℕ) × (triples k states next ≡ swept k states next n)
   unfolding triples
@@ -179,9 +179,9 @@ module _ (k : Skid) (legal : Legal k) (states : ℕ) (next : List ℕ) (table : 
   triples-closed = sweep-fixed k everyInput legal states next table (triples k states next) (triples-further k everyInput legal states next table)
 
   -- more fuel changes nothing
-  pub triples-fuel : (f : ℕ) → states * (k .nA * k .nC) ≤ f → grown k states next f (startSets k states next) ≡ triples k states next
+  pub triples-fuel : (f : ℕ) → states * (k .nA * k .nC) ≤ f → grown k states next f (startSets k states) ≡ triples k states next
   unfolding triples
   triples-fuel f h =
       let n : ℕ = states * (k .nA * k .nC) in
       let z : n + (f - n) ≡ f = omega arith in
-      ap (λ f. grown k states next f (startSets k states next)) (sym z) ∙ grown-more k states next n (f - n) (startSets k states next) triples-closed
+      ap (λ f. grown k states next f (startSets k states)) (sym z) ∙ grown-more k states next n (f - n) (startSets k states) triples-closed

@@ -15,7 +15,7 @@ use Rattle.records.specs.Faults.{inLimits, fieldsBelow, headFault, rowFa
 use Rattle.records.specs.Replies.{success, refusal, unless, _orElse_, faultReply, recordRefusal}
 use Rattle.records.specs.NextTables.{tableOf, listing}
 use Rattle.records.specs.Tables.{controllerTable}
-use Rattle.records.specs.Reading.{reading, readContext, readSpecification, controllerRefusal, readController}
+use Rattle.records.specs.Reading.{readUnless, readContext, readSpecification, controllerRefusal, readController}
 use Rattle.records.specs.Writing.{badPlace, controllerBytes, placeRefusal, writeRefusal, writeController}
 
 -- U=2, V=2, two states: state 0 goes to 1 by (0, 1) and stays by (1, 0); state 1 goes to 0 by (1, 1)
@@ -39,7 +39,7 @@ reads : (readContext (0x0D ∷ 0 ∷ 0x43 ∷ 0x58 ∷ 1 ∷ 2 ∷ 3 ∷ 4 ∷ 5
     ∷ record { reply = refusal 3 2 0 0; counts = noCounts }
     ∷ record { reply = refusal 7 1 1 0; counts = noCounts }
     ∷ []
-unfolding same less total stateLimit contextLayout specificationLayout little numbers rowsOf inLimits fieldsBelow headFault rowFault rowsFault fault faultReply recordRefusal reading readContext readSpecification
+unfolding same less total stateLimit contextLayout specificationLayout little numbers rowsOf inLimits fieldsBelow headFault rowFault rowsFault fault faultReply recordRefusal readUnless readContext readSpecification
 reads = refl
 
 -- a controller: its counts, the table, zeros up to 8,192, and what was beyond; nothing where the buffer is too short or the record is refused
@@ -48,12 +48,12 @@ controller : (readController bytes (replicate 8194 7) .reading ∷ readControlle
     ∷ record { reply = refusal 10 0 0 0; counts = noCounts }
     ∷ record { reply = refusal 1 3 0 0; counts = noCounts }
     ∷ []
-unfolding bytes same less total stateLimit nextNumbers controllerLayout little numbers rowsOf inLimits fieldsBelow headFault rowFault rowsFault fault unless _orElse_ faultReply recordRefusal reading tableOf controllerTable controllerRefusal readController filled
+unfolding bytes same less total stateLimit nextNumbers controllerLayout little numbers rowsOf inLimits fieldsBelow headFault rowFault rowsFault fault unless _orElse_ faultReply recordRefusal readUnless tableOf controllerTable controllerRefusal readController filled
 controller = refl
 
 tables : (readController bytes (replicate 8194 7) .next ∷ readController bytes (7 ∷ 7 ∷ []) .next ∷ readController (0 ∷ bytes) (7 ∷ 7 ∷ []) .next ∷ []) ≡
     (next ++ (replicate 8184 0 ++ (7 ∷ 7 ∷ []))) ∷ (7 ∷ 7 ∷ []) ∷ (7 ∷ 7 ∷ []) ∷ []
-unfolding bytes next same less total filled stateLimit nextNumbers controllerLayout little numbers rowsOf inLimits fieldsBelow headFault rowFault rowsFault fault unless _orElse_ faultReply recordRefusal tableOf reading controllerTable controllerRefusal readController
+unfolding bytes next same less total filled stateLimit nextNumbers controllerLayout little numbers rowsOf inLimits fieldsBelow headFault rowFault rowsFault fault unless _orElse_ faultReply recordRefusal tableOf readUnless controllerTable controllerRefusal readController
 tables = refl
 
 -- what writing replies: the record fits exactly from place 1 of 27 bytes; a count outside its limit; the table lacks a place; one byte too few; a
@@ -86,3 +86,13 @@ writes : (writeController 2 2 2 next (replicate 28 7) 1 .buffer ∷ writeControl
     (7 ∷ (bytes ++ (7 ∷ []))) ∷ replicate 20 7 ∷ []
 unfolding bytes next total stateLimit controllerLayout bytesOf written recordOf flatMap inLimits unless _orElse_ listing firstPlace badPlace controllerBytes placeRefusal writeRefusal writeController
 writes = refl
+
+-- U=2, V=3, one state, which stays by (1, 2): read, and written
+unequal : (readController (0x0C ∷ 0 ∷ 0x43 ∷ 0x54 ∷ 2 ∷ 3 ∷ 1 ∷ 0 ∷ 0 ∷ 0 ∷ 1 ∷ 2 ∷ 0 ∷ 0 ∷ []) (replicate 8192 7) .next
+    ∷ writeController 2 3 1 (65535 ∷ 65535 ∷ 65535 ∷ 65535 ∷ 65535 ∷ 0 ∷ []) (replicate 14 7) 0 .buffer
+    ∷ []) ≡
+    (65535 ∷ 65535 ∷ 65535 ∷ 65535 ∷ 65535 ∷ 0 ∷ replicate 8186 0)
+    ∷ (0x0C ∷ 0 ∷ 0x43 ∷ 0x54 ∷ 2 ∷ 3 ∷ 1 ∷ 0 ∷ 0 ∷ 0 ∷ 1 ∷ 2 ∷ 0 ∷ 0 ∷ [])
+    ∷ []
+unfolding same less total filled stateLimit nextNumbers controllerLayout little numbers rowsOf bytesOf written recordOf flatMap inLimits fieldsBelow headFault rowFault rowsFault fault unless _orElse_ faultReply recordRefusal tableOf controllerTable readUnless controllerRefusal readController listing firstPlace badPlace controllerBytes placeRefusal writeRefusal writeController
+unequal = refl

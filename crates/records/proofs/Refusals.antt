@@ -11,6 +11,7 @@ use Rattle.records.specs.Limits.{stateLimit}
 use Rattle.records.specs.Layouts.{Layout, contextLayout, specificationLayout, controllerLayout}
 use Rattle.records.specs.Bytes.{little, numbers}
 use Rattle.records.specs.Records.{rowsOf}
+use Rattle.records.specs.Replies.{refusal, fine, faultReply}
 use Rattle.records.specs.Faults.{inLimits, fieldsBelow, headFault, rowFault, rowsFault, fault}
 
 record Sample : Type 0 where
@@ -46,6 +47,9 @@ contexts =
     gives (0x08 ∷ 0 ∷ 0x43 ∷ 0x58 ∷ 0 ∷ 1 ∷ 1 ∷ 1 ∷ 1 ∷ 0 ∷ []) Cut ∷
     -- each count at 0, at its limit and past it
     gives (0x07 ∷ 0 ∷ 0x43 ∷ 0x58 ∷ 0 ∷ 1 ∷ 1 ∷ 1 ∷ 1 ∷ []) Limit ∷
+    gives (0x07 ∷ 0 ∷ 0x43 ∷ 0x58 ∷ 1 ∷ 0 ∷ 1 ∷ 1 ∷ 1 ∷ []) Limit ∷
+    gives (0x07 ∷ 0 ∷ 0x43 ∷ 0x58 ∷ 1 ∷ 1 ∷ 0 ∷ 1 ∷ 1 ∷ []) Limit ∷
+    gives (0x07 ∷ 0 ∷ 0x43 ∷ 0x58 ∷ 1 ∷ 1 ∷ 1 ∷ 0 ∷ 1 ∷ []) Limit ∷
     gives (0x07 ∷ 0 ∷ 0x43 ∷ 0x58 ∷ 1 ∷ 1 ∷ 1 ∷ 1 ∷ 0 ∷ []) Limit ∷
     gives (0x07 ∷ 0 ∷ 0x43 ∷ 0x58 ∷ 8 ∷ 8 ∷ 4 ∷ 4 ∷ 64 ∷ []) Sound ∷
     gives (0x07 ∷ 0 ∷ 0x43 ∷ 0x58 ∷ 9 ∷ 8 ∷ 4 ∷ 4 ∷ 64 ∷ []) Limit ∷
@@ -68,7 +72,8 @@ contexts =
     -- a key that rises in its first field and falls in a later one; one that falls in its first and rises in a later one
     gives (0x13 ∷ 0 ∷ 0x43 ∷ 0x58 ∷ 2 ∷ 1 ∷ 1 ∷ 1 ∷ 2 ∷ 0 ∷ 1 ∷ 0 ∷ 0 ∷ 0 ∷ 0 ∷ 1 ∷ 0 ∷ 0 ∷ 0 ∷ 0 ∷ 0 ∷ []) Sound ∷
     gives (0x13 ∷ 0 ∷ 0x43 ∷ 0x58 ∷ 2 ∷ 1 ∷ 1 ∷ 1 ∷ 2 ∷ 1 ∷ 0 ∷ 0 ∷ 0 ∷ 0 ∷ 0 ∷ 0 ∷ 1 ∷ 0 ∷ 0 ∷ 0 ∷ 0 ∷ []) (LowerKey 1) ∷
-    -- within a row 5 comes before 6 and 7; an earlier faulty row decides before a later one
+    -- within a row 5 comes before 6, and before 7; an earlier faulty row decides before a later one
+    gives (0x13 ∷ 0 ∷ 0x43 ∷ 0x58 ∷ 1 ∷ 2 ∷ 1 ∷ 1 ∷ 2 ∷ 0 ∷ 0 ∷ 0 ∷ 0 ∷ 0 ∷ 0 ∷ 0 ∷ 0 ∷ 0 ∷ 0 ∷ 0 ∷ 2 ∷ []) (Code 1) ∷
     gives (0x13 ∷ 0 ∷ 0x43 ∷ 0x58 ∷ 1 ∷ 2 ∷ 1 ∷ 1 ∷ 2 ∷ 0 ∷ 0 ∷ 0 ∷ 0 ∷ 1 ∷ 0 ∷ 0 ∷ 0 ∷ 0 ∷ 0 ∷ 0 ∷ 2 ∷ []) (Code 1) ∷
     gives (0x19 ∷ 0 ∷ 0x43 ∷ 0x58 ∷ 1 ∷ 2 ∷ 1 ∷ 1 ∷ 2 ∷ 0 ∷ 0 ∷ 0 ∷ 0 ∷ 1 ∷ 0 ∷ 0 ∷ 0 ∷ 0 ∷ 0 ∷ 0 ∷ 0 ∷ 2 ∷ 0 ∷ 0 ∷ 0 ∷ 0 ∷ 0 ∷ []) (LowerKey 1) ∷
     []
@@ -78,6 +83,11 @@ specifications : List Sample
 specifications =
     gives (0x05 ∷ 0 ∷ 0x53 ∷ 0x50 ∷ 8 ∷ 8 ∷ 64 ∷ []) Sound ∷
     gives (0x05 ∷ 0 ∷ 0x53 ∷ 0x50 ∷ 8 ∷ 8 ∷ 65 ∷ []) Limit ∷
+    gives (0x05 ∷ 0 ∷ 0x53 ∷ 0x50 ∷ 9 ∷ 8 ∷ 64 ∷ []) Limit ∷
+    gives (0x05 ∷ 0 ∷ 0x53 ∷ 0x50 ∷ 8 ∷ 9 ∷ 64 ∷ []) Limit ∷
+    gives (0x05 ∷ 0 ∷ 0x53 ∷ 0x50 ∷ 0 ∷ 8 ∷ 64 ∷ []) Limit ∷
+    gives (0x05 ∷ 0 ∷ 0x53 ∷ 0x50 ∷ 8 ∷ 0 ∷ 64 ∷ []) Limit ∷
+    gives (0x05 ∷ 0 ∷ 0x53 ∷ 0x50 ∷ 8 ∷ 8 ∷ 0 ∷ []) Limit ∷
     gives (0x04 ∷ 0 ∷ 0x53 ∷ 0x50 ∷ 8 ∷ 8 ∷ []) Cut ∷
     gives (0x05 ∷ 0 ∷ 0x43 ∷ 0x54 ∷ 1 ∷ 1 ∷ 1 ∷ []) Kind ∷
     gives (0x09 ∷ 0 ∷ 0x53 ∷ 0x50 ∷ 2 ∷ 3 ∷ 2 ∷ 1 ∷ 1 ∷ 2 ∷ 1 ∷ []) Sound ∷
@@ -99,6 +109,9 @@ controllers =
     gives (0x06 ∷ 0 ∷ 0x43 ∷ 0x54 ∷ 4 ∷ 4 ∷ 1 ∷ 2 ∷ []) Limit ∷
     gives (0x06 ∷ 0 ∷ 0x43 ∷ 0x54 ∷ 5 ∷ 4 ∷ 0 ∷ 2 ∷ []) Limit ∷
     gives (0x06 ∷ 0 ∷ 0x43 ∷ 0x54 ∷ 4 ∷ 5 ∷ 0 ∷ 2 ∷ []) Limit ∷
+    gives (0x06 ∷ 0 ∷ 0x43 ∷ 0x54 ∷ 0 ∷ 4 ∷ 0 ∷ 2 ∷ []) Limit ∷
+    gives (0x06 ∷ 0 ∷ 0x43 ∷ 0x54 ∷ 4 ∷ 0 ∷ 0 ∷ 2 ∷ []) Limit ∷
+    gives (0x06 ∷ 0 ∷ 0x43 ∷ 0x54 ∷ 4 ∷ 4 ∷ 0 ∷ 0 ∷ []) Limit ∷
     gives (0x05 ∷ 0 ∷ 0x43 ∷ 0x54 ∷ 4 ∷ 4 ∷ 0 ∷ []) Cut ∷
     gives (0x06 ∷ 0 ∷ 0x43 ∷ 0x58 ∷ 4 ∷ 4 ∷ 0 ∷ 1 ∷ []) Kind ∷
     gives (0x0C ∷ 0 ∷ 0x43 ∷ 0x54 ∷ 2 ∷ 3 ∷ 1 ∷ 1 ∷ 0 ∷ 1 ∷ 1 ∷ 2 ∷ 255 ∷ 0 ∷ []) Sound ∷
@@ -123,3 +136,9 @@ specifications-found = refl
 controllers-found : found controllerLayout controllers ≡ asked controllers
 unfolding found asked controllers
 controllers-found = refl
+
+-- the number and the row of each finding, in a reply for record 3
+numbered : map (faultReply 3) (Sound ∷ Length ∷ Kind ∷ Cut ∷ Limit ∷ Code 4 ∷ EqualKey 4 ∷ LowerKey 4 ∷ []) ≡
+    fine ∷ refusal 1 3 0 0 ∷ refusal 2 3 0 0 ∷ refusal 3 3 0 0 ∷ refusal 4 3 0 0 ∷ refusal 5 3 4 0 ∷ refusal 6 3 4 0 ∷ refusal 7 3 4 0 ∷ []
+unfolding faultReply
+numbered = refl

@@ -14,7 +14,7 @@ use mir.Facts.{and-yes, yes-and}
 use Rattle.pairs.specs.Scans.{if_then_else_, firstPlace}
 use Rattle.pairs.proofs.Lists.{place-at, place-first, mem-at, at-mem}
 use Rattle.records.specs.Limits.{absent}
-use Rattle.records.specs.NextTables.{there}
+use Rattle.records.specs.NextTables.{there, isPresent}
 use Rattle.records.specs.Tables.{Skid, rowState, rowI, rowV, rowU, rowO, rowNext, hasKey, rowNumber, contextNext, specNext}
 use Rattle.records.specs.Meaning.{NextTable, Keyed, Legal, system}
 
@@ -68,18 +68,18 @@ step-row rows a i v u o a′ e = go (ltb n (length rows)) refl e
         (getD rows n [], at-mem rows n [] h, row-there rows a i v u o h, Option·some-injective (rowNext (getD rows n [])) a′ e)
     go false t e = absurd (Option·none-ne-some a′ e)
 
--- an entry of a next table is a state exactly if it is not 65535
-pub has-there : (j : ℕ) → T (not (eqb j absent)) → there j ≡ some j
+-- an entry of a next table that is present is the state itself
+pub has-there : (j : ℕ) → T (isPresent (there j)) → there j ≡ some j
 has-there j = go (eqb j absent)
   where
-    go : (b : Bool) → T (not b) → (if b then none else some j) ≡ some j
+    go : (b : Bool) → T (isPresent (if b then none else some j)) → (if b then none else some j) ≡ some j
     go true t = absurd t
     go false t = refl
 
-pub there-has : (j j′ : ℕ) → there j ≡ some j′ → T (not (eqb j absent)) × (j ≡ j′)
+pub there-has : (j j′ : ℕ) → there j ≡ some j′ → T (isPresent (there j)) × (j ≡ j′)
 there-has j j′ = go (eqb j absent)
   where
-    go : (b : Bool) → (if b then none else some j) ≡ some j′ → T (not b) × (j ≡ j′)
+    go : (b : Bool) → (if b then none else some j) ≡ some j′ → T (isPresent (if b then none else some j)) × (j ≡ j′)
     go true e = absurd (Option·none-ne-some j′ e)
     go false e = (tt, Option·some-injective j j′ e)
 

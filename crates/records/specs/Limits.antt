@@ -7,7 +7,7 @@ use Rattle.pairs.specs.Lent.{setSize}
 unfoldable pub stateLimit : ℕ
 stateLimit = 512
 
--- "at least 512 numbers of 64 bits and 8,192 of 16 bits": a set for each state, and 16 places for each state
+-- "at least 512 numbers of 64 bits and 8,192 of 16 bits": the first have room for the set of each state
 unfoldable pub setNumbers : ℕ
 setNumbers = stateLimit * setSize
 

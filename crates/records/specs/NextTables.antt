@@ -2,6 +2,7 @@
 -- (state, x, y, next): a controller by U and V, a specification by I and O.
 -- Assumes nothing.
 use Prim.Native.Nat.{ℕ, suc, _+_, _*_, _/_, _%_}
+use mathlib.Core.Bool.{Bool, true, false}
 use mathlib.Core.Option.{Option, none, some}
 use mathlib.Core.List.{List, [], _∷_, foldl}
 use lib.Dec.{eqb}
@@ -16,6 +17,10 @@ stepPlace m n s x y = s * (m * n) + (x * n + y)
 -- what an entry says: 65535 is no state
 abbrev pub there : ℕ → Option ℕ
 there j = if eqb j absent then none else some j
+
+abbrev pub isPresent : Option ℕ → Bool
+isPresent none = false
+isPresent (some j) = true
 
 -- the table of the rows
 unfoldable pub tableOf : ℕ → ℕ → ℕ → List (List ℕ) → List ℕ

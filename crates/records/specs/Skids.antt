@@ -67,7 +67,13 @@ abbrev judged : List ℕ → ℕ → ℕ → List ℕ → Checking
 judged controller number states reached = record { controller = controller; number = number; states = states; reached = reached }
 
 abbrev solvedOnly : List ℕ → List ℕ → List Solving → Case
-solvedOnly cb sb solving = record { context = cb; specification = sb; solving = solving; checking = []; printing = [] }
+solvedOnly context specification solving = record { context = context; specification = specification; solving = solving; checking = []; printing = [] }
+
+abbrev solvedPrinted : List ℕ → List ℕ → List Solving → List Printing → Case
+solvedPrinted context specification solving printing = record { context = context; specification = specification; solving = solving; checking = []; printing = printing }
+
+abbrev prints : ℕ → List ℕ → Printing
+prints mode text = record { mode = mode; text = text }
 
 -- "I=O=U=V=2, u follows i, o follows v; specification o = i", byte for byte; what `solve` prints; K12's three verdicts; and
 -- K1's answer beside a state that nothing reaches, which need not be complete
@@ -102,7 +108,7 @@ k1 = record {
 -- "I=V=2, free. State 0: on any i, v=0 stays, v=1 goes to 1. State 1 stays on i=0 with both v and has nothing on i=1."
 unfoldable pub k2 : Case
 unfolding contextRecord flatMap freeTwo
-k2 = solvedOnly
+k2 = solvedPrinted
     (contextRecord (2 ∷ 1 ∷ 1 ∷ 2 ∷ 2 ∷ []) (
     (0 ∷ 0 ∷ 0 ∷ 0 ∷ 0 ∷ 0 ∷ []) ∷ (0 ∷ 0 ∷ 1 ∷ 0 ∷ 0 ∷ 1 ∷ []) ∷ (0 ∷ 1 ∷ 0 ∷ 0 ∷ 0 ∷ 0 ∷ []) ∷ (0 ∷ 1 ∷ 1 ∷ 0 ∷ 0 ∷ 1 ∷ []) ∷
     (1 ∷ 0 ∷ 0 ∷ 0 ∷ 0 ∷ 1 ∷ []) ∷ (1 ∷ 0 ∷ 1 ∷ 0 ∷ 0 ∷ 1 ∷ []) ∷ []))
@@ -110,22 +116,34 @@ k2 = solvedOnly
     table 0 2 0 (1 ∷ 2 ∷ []) ((0 ∷ 0 ∷ 0 ∷ 0 ∷ []) ∷ (0 ∷ 0 ∷ 1 ∷ 1 ∷ []) ∷ (1 ∷ 0 ∷ 0 ∷ 1 ∷ []) ∷ (1 ∷ 0 ∷ 1 ∷ 1 ∷ []) ∷ []) ∷
     table 1 1 1 (1 ∷ []) ((0 ∷ 0 ∷ 0 ∷ 0 ∷ []) ∷ []) ∷
     [])
+    -- "states 1 rounds 1", "0 0 0 0"
+    (prints 1 (115 ∷ 116 ∷ 97 ∷ 116 ∷ 101 ∷ 115 ∷ 32 ∷ 49 ∷ 32 ∷ 114 ∷ 111 ∷ 117 ∷ 110 ∷ 100 ∷ 115 ∷ 32 ∷ 49 ∷ 10
+    ∷ 48 ∷ 32 ∷ 48 ∷ 32 ∷ 48 ∷ 32 ∷ 48 ∷ 10 ∷ []) ∷ [])
 
 -- "O=2, context loops with o=1, specification o=0."
 unfoldable pub k3 : Case
 unfolding contextRecord specificationRecord flatMap
-k3 = solvedOnly
+k3 = solvedPrinted
     (contextRecord (1 ∷ 2 ∷ 1 ∷ 1 ∷ 1 ∷ []) ((0 ∷ 0 ∷ 0 ∷ 0 ∷ 1 ∷ 0 ∷ []) ∷ []))
     (specificationRecord (1 ∷ 2 ∷ 1 ∷ []) ((0 ∷ 0 ∷ 0 ∷ 0 ∷ []) ∷ []))
     (table 0 1 0 (1 ∷ []) [] ∷ nothing 1 ∷ [])
+    -- "refused 12 record 0 row 0 rounds 1"
+    (prints 1 (114 ∷ 101 ∷ 102 ∷ 117 ∷ 115 ∷ 101 ∷ 100 ∷ 32 ∷ 49 ∷ 50 ∷ 32 ∷ 114 ∷ 101 ∷ 99 ∷ 111 ∷ 114 ∷ 100 ∷ 32 ∷ 48 ∷ 32 ∷ 114 ∷ 111 ∷ 119 ∷ 32 ∷ 48 ∷ 32 ∷ 114 ∷ 111 ∷ 117 ∷ 110 ∷ 100 ∷ 115 ∷ 32 ∷ 49 ∷ 10 ∷ []) ∷ [])
 
 -- "U=2, context loops with u=0 only."
 unfoldable pub k4 : Case
 unfolding contextRecord flatMap freeOne
-k4 = solvedOnly
+k4 = solvedPrinted
     (contextRecord (1 ∷ 1 ∷ 2 ∷ 1 ∷ 1 ∷ []) ((0 ∷ 0 ∷ 0 ∷ 0 ∷ 0 ∷ 0 ∷ []) ∷ []))
-    freeOne (map (λ mode. table mode 2 0 (1 ∷ 0 ∷ [])
+    freeOne
+    (map (λ mode. table mode 2 0 (1 ∷ 0 ∷ [])
     ((0 ∷ 0 ∷ 0 ∷ 0 ∷ []) ∷ (0 ∷ 1 ∷ 0 ∷ 1 ∷ []) ∷ (1 ∷ 0 ∷ 0 ∷ 1 ∷ []) ∷ (1 ∷ 1 ∷ 0 ∷ 1 ∷ []) ∷ [])) (0 ∷ 1 ∷ []))
+    -- "states 2 rounds 0", "0 0 0 0", "0 1 0 1", "1 0 0 1", "1 1 0 1"
+    (prints 0 (115 ∷ 116 ∷ 97 ∷ 116 ∷ 101 ∷ 115 ∷ 32 ∷ 50 ∷ 32 ∷ 114 ∷ 111 ∷ 117 ∷ 110 ∷ 100 ∷ 115 ∷ 32 ∷ 48 ∷ 10
+    ∷ 48 ∷ 32 ∷ 48 ∷ 32 ∷ 48 ∷ 32 ∷ 48 ∷ 10
+    ∷ 48 ∷ 32 ∷ 49 ∷ 32 ∷ 48 ∷ 32 ∷ 49 ∷ 10
+    ∷ 49 ∷ 32 ∷ 48 ∷ 32 ∷ 48 ∷ 32 ∷ 49 ∷ 10
+    ∷ 49 ∷ 32 ∷ 49 ∷ 32 ∷ 48 ∷ 32 ∷ 49 ∷ 10 ∷ []) ∷ [])
 
 -- "0 as in K2; 1 goes to 2 on all; 2 loops on i=0 with any v."
 unfoldable pub k5 : Case

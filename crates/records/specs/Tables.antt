@@ -96,12 +96,6 @@ rowSpecNext k p r = specNext k (specificationOf (k .nC) p) (rowI r) (rowO r)
 abbrev pub letterAt : Skid → ℕ → ℕ → ℕ
 letterAt k u v = u * k .nV + v
 
-abbrev pub letterU : Skid → ℕ → ℕ
-letterU k t = t / k .nV
-
-abbrev pub letterV : Skid → ℕ → ℕ
-letterV k t = t % k .nV
-
 unfoldable pub letters : Skid → List ℕ
 letters k = left 0 (k .nU * k .nV)
 

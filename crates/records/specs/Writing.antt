@@ -19,17 +19,15 @@ use Rattle.records.specs.NextTables.{listing}
 unfoldable pub badPlace : ℕ → List ℕ → ℕ
 badPlace states places = firstPlace (λ j. not (eqb j absent || ltb j states)) places
 
-pub record ControllerWriting : Type 0 where
+pub record WriteOutcome : Type 0 where
   pub reply : Reply
   pub buffer : List ℕ
 
 -- "It takes U, V, states and the next table"
 module _ (nU nV states : ℕ) (next : List ℕ) where
-  abbrev pub tableSize : ℕ
-  tableSize = states * (nU * nV)
-
+  -- the places that the table must have; what stands behind them is not looked at
   abbrev pub places : List ℕ
-  places = take tableSize next
+  places = take (states * (nU * nV)) next
 
   -- "and has a row for each place that is not 65535"
   unfoldable pub controllerBytes : List ℕ
@@ -44,16 +42,16 @@ module _ (nU nV states : ℕ) (next : List ℕ) where
   unfoldable pub writeRefusal : List ℕ → ℕ → Reply
   writeRefusal buffer start =
       unless (inLimits (nU ∷ nV ∷ states ∷ []) (controllerLayout .limits)) 4 3 orElse
-      unless (leb tableSize (length next) && leb (start + length controllerBytes) (length buffer)) 10 0 orElse
+      unless (leb (states * (nU * nV)) (length next) && leb (start + length controllerBytes) (length buffer)) 10 0 orElse
       placeRefusal
 
   -- "all other bytes stay"; "A refused write changes nothing."
-  unfoldable pub writeController : List ℕ → ℕ → ControllerWriting
+  unfoldable pub writeController : List ℕ → ℕ → WriteOutcome
   writeController buffer start =
       let refused : Reply = writeRefusal buffer start in
       let placed : List ℕ = take start buffer ++ controllerBytes ++ drop (start + length controllerBytes) buffer in
-      let done : ControllerWriting = record { reply = success states 0; buffer = placed } in
-      let stays : ControllerWriting = record { reply = refused; buffer = buffer } in
+      let done : WriteOutcome = record { reply = success states 0; buffer = placed } in
+      let stays : WriteOutcome = record { reply = refused; buffer = buffer } in
       if refuses refused then stays else done
 
 -- what the function ensures, for every input: the reply and the buffer at the end are those of the definition

@@ -1,8 +1,8 @@
--- The order of refusals of solving, on records written by hand from document 01, computed: each input has every later fault too.
+-- The order of refusals of solving, on records written by hand from document 01, computed: each input has the next fault of the order too.
 -- Assumes nothing.
 use mathlib.Core.Path.{_≡_, refl}
 use Prim.Native.Nat.{ℕ}
-use mathlib.Core.List.{List, [], _∷_}
+use mathlib.Core.List.{List, [], _∷_, map}
 use lib.ListN.{replicate}
 use Rattle.pairs.specs.Scans.{same, less, total}
 use Rattle.pairs.specs.Sets.{pairLimit}
@@ -12,25 +12,26 @@ use Rattle.records.specs.Layouts.{contextLayout, specificationLayout}
 use Rattle.records.specs.Bytes.{little, numbers}
 use Rattle.records.specs.Records.{rowsOf}
 use Rattle.records.specs.Faults.{inLimits, fieldsBelow, headFault, rowFault, rowsFault, fault}
-use Rattle.records.specs.Replies.{refusal, unless, _orElse_, faultReply, recordRefusal}
+use Rattle.records.specs.Replies.{success, refusal, unless, _orElse_, faultReply, recordRefusal}
 use Rattle.records.specs.Matching.{skidRefusal, outsideAgree, productFits, outsideRefusal, productRefusal}
-use Rattle.solver.specs.Solve.{solveRefusal, solveFor, solveBy, solve}
+use Rattle.solver.specs.declared.Answer.the-variants.{Table, TooMany, None}
+use Rattle.solver.specs.Solve.{answerReply, solveRefusal, solveFor, solveBy, solve}
 
--- I=O=U=V=1; 5 context states with 13 specification states
-abbrev context : List ℕ
-context = 0x07 ∷ 0 ∷ 0x43 ∷ 0x58 ∷ 1 ∷ 1 ∷ 1 ∷ 1 ∷ 5 ∷ []
+-- I=O=U=V=1. "States 8 and 8 pass, 5 and 13 give 9."
+abbrev context : ℕ → List ℕ
+context states = 0x07 ∷ 0 ∷ 0x43 ∷ 0x58 ∷ 1 ∷ 1 ∷ 1 ∷ 1 ∷ states ∷ []
 
 abbrev specification : ℕ → ℕ → ℕ → List ℕ
 specification i o states = 0x05 ∷ 0 ∷ 0x53 ∷ 0x50 ∷ i ∷ o ∷ states ∷ []
 
 order : (solve 2 [] [] [] [] .reply
     ∷ solve 1 [] [] [] [] .reply
-    ∷ solve 0 context [] [] [] .reply
-    ∷ solve 0 context (specification 2 1 13) [] [] .reply
-    ∷ solve 1 context (specification 1 2 13) [] [] .reply
-    ∷ solve 0 context (specification 1 1 13) [] [] .reply
-    ∷ solve 0 context (specification 1 1 12) (replicate 511 0) (replicate 8192 0) .reply
-    ∷ solve 1 context (specification 1 1 12) (replicate 512 0) (replicate 8191 0) .reply
+    ∷ solve 0 (context 5) [] [] [] .reply
+    ∷ solve 0 (context 5) (specification 2 1 13) [] [] .reply
+    ∷ solve 1 (context 5) (specification 1 2 13) [] [] .reply
+    ∷ solve 0 (context 5) (specification 1 1 13) [] [] .reply
+    ∷ solve 0 (context 8) (specification 1 1 8) (replicate 511 0) (replicate 8192 0) .reply
+    ∷ solve 1 (context 8) (specification 1 1 8) (replicate 512 0) (replicate 8191 0) .reply
     ∷ []) ≡
     refusal 13 0 0 0
     ∷ refusal 1 1 0 0
@@ -51,3 +52,7 @@ stays : (solve 2 [] [] (replicate 514 7) (replicate 8194 9) ∷ solve 1 [] [] (r
     ∷ []
 unfolding same less total contextLayout little numbers rowsOf inLimits fieldsBelow headFault rowFault rowsFault fault unless _orElse_ faultReply recordRefusal skidRefusal solveRefusal solveFor solveBy solve
 stays = refl
+
+-- the number and the values of each answer
+numbered : map answerReply (Table 4 2 ∷ TooMany ∷ None 3 ∷ []) ≡ success 4 2 ∷ refusal 11 0 0 0 ∷ refusal 12 0 0 3 ∷ []
+numbered = refl

@@ -1,4 +1,4 @@
--- K1 to K10, one statement over the list of them: no system fails.
+-- K1 to K10, with four skids more, one statement over the list of them: no skid fails.
 -- Assumes nothing.
 use mathlib.Core.Path.{_≡_, refl}
 use mathlib.Core.List.{[]}

@@ -9,7 +9,7 @@ use Rattle.records.specs.Layouts.{contextLayout, specificationLayout}
 use Rattle.records.specs.Bytes.{little, numbers}
 use Rattle.records.specs.Records.{rowsOf}
 use Rattle.records.specs.Faults.{inLimits, fieldsBelow, headFault, rowFault, rowsFault, fault}
-use Rattle.records.specs.Replies.{success, unless, _orElse_, faultReply, recordRefusal}
+use Rattle.records.specs.Replies.{success, refusal, unless, _orElse_, faultReply, recordRefusal}
 use Rattle.records.specs.Matching.{skidRefusal}
 use Rattle.records.specs.Limits.{stateLimit, setNumbers, nextNumbers}
 use Rattle.pairs.specs.Lent.{setSize}
@@ -30,11 +30,19 @@ one = 49 ∷ []
 thirteen : List ℕ
 thirteen = 49 ∷ 51 ∷ []
 
+-- a row and rounds: "refused 7 record 1 row 3 rounds 0", "refused 12 record 0 row 0 rounds 10"
+refusals : (refusedText (refusal 7 1 3 0) ∷ refusedText (refusal 12 0 0 10) ∷ []) ≡
+    (114 ∷ 101 ∷ 102 ∷ 117 ∷ 115 ∷ 101 ∷ 100 ∷ 32 ∷ 55 ∷ 32 ∷ 114 ∷ 101 ∷ 99 ∷ 111 ∷ 114 ∷ 100 ∷ 32 ∷ 49 ∷ 32 ∷ 114 ∷ 111 ∷ 119 ∷ 32 ∷ 51 ∷ 32 ∷ 114 ∷ 111 ∷ 117 ∷ 110 ∷ 100 ∷ 115 ∷ 32 ∷ 48 ∷ 10 ∷ [])
+    ∷ (114 ∷ 101 ∷ 102 ∷ 117 ∷ 115 ∷ 101 ∷ 100 ∷ 32 ∷ 49 ∷ 50 ∷ 32 ∷ 114 ∷ 101 ∷ 99 ∷ 111 ∷ 114 ∷ 100 ∷ 32 ∷ 48 ∷ 32 ∷ 114 ∷ 111 ∷ 119 ∷ 32 ∷ 48 ∷ 32 ∷ 114 ∷ 111 ∷ 117 ∷ 110 ∷ 100 ∷ 115 ∷ 32 ∷ 49 ∷ 48 ∷ 10 ∷ [])
+    ∷ []
+unfolding refusedText refusedWord recordWord rowWord roundsWord line digits decimal
+refusals = refl
+
 fits : checkedText (success 12 0) ≡ 102 ∷ 105 ∷ 116 ∷ 115 ∷ 32 ∷ 115 ∷ 116 ∷ 97 ∷ 116 ∷ 101 ∷ 115 ∷ 32 ∷ 49 ∷ 50 ∷ 10 ∷ []
 unfolding checkedText fitsWord statesWord line digits decimal
 fits = refl
 
--- the longest input, and one byte more; no byte at all; mode 2; a mode byte alone; a context length of 0 and of 1, one too long, and one that is exact
+-- one byte more than the longest input, and the longest; no byte at all; mode 2; a mode byte alone; a context length of 0 and of 1, one too long, and one that is exact
 solves : (solveText (replicate 28690 0)
     ∷ solveText (2 ∷ replicate 28688 0)
     ∷ solveText []
@@ -58,13 +66,15 @@ solves : (solveText (replicate 28690 0)
 unfolding one thirteen same less total stateLimit setSize setNumbers nextNumbers contextLayout specificationLayout little numbers rowsOf inLimits fieldsBelow headFault rowFault rowsFault fault unless _orElse_ faultReply recordRefusal skidRefusal solveRefusal solveFor solveBy solve decimal digits line statesWord roundsWord refusedWord recordWord rowWord refusedText solvedText solveLimit recordEnd firstRecord behind solvePrinted solveText
 solves = refl
 
--- one byte too many; no byte at all; a context and no specification; a context, a specification and no controller
+-- one byte too many, and none too many; no byte at all; a context and no specification; a context, a specification and no controller
 checks : (fitText (replicate 77849 0)
+    ∷ fitText (replicate 77848 0)
     ∷ fitText []
     ∷ fitText (7 ∷ 0 ∷ 0x43 ∷ 0x58 ∷ 1 ∷ 1 ∷ 1 ∷ 1 ∷ 1 ∷ [])
     ∷ fitText (7 ∷ 0 ∷ 0x43 ∷ 0x58 ∷ 1 ∷ 1 ∷ 1 ∷ 1 ∷ 1 ∷ 5 ∷ 0 ∷ 0x53 ∷ 0x50 ∷ 1 ∷ 1 ∷ 1 ∷ [])
     ∷ []) ≡
     refusedLine one 0
+    ∷ refusedLine one 1
     ∷ refusedLine one 1
     ∷ refusedLine one 2
     ∷ refusedLine one 3

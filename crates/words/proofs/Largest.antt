@@ -5,7 +5,7 @@ use mathlib.Core.Path.{refl, sym, ap, subst, _∙_}
 use mathlib.Core.Logic.{_↔_}
 use mathlib.Core.List.{List, [], _++_, map, append-nil, append-assoc}
 use Rattle.words.specs.Words.{Words, _⊆_, PrefixClosed, LargestPrefixClosedPart, JoinedStaysWithin, PlainOf, Breaking, Complement, run}
-use Rattle.words.specs.System.{System, Letter, letter, Combined, Specified, StaysWithin, Plain}
+use Rattle.words.specs.System.{System, Letter, letter, Combined, controllerWord, Specified, Within, StaysWithin, Plain}
 use Rattle.words.proofs.Words.{dec-some}
 
 module _ {Step L Outside : Type 0} (letter : Step → L) (outside : Step → Outside) (Context : Words Step) (Specification : Words Outside) where
@@ -31,6 +31,10 @@ module _ {Step L Outside : Type 0} (letter : Step → L) (outside : Step → Out
   }
 
 module _ (s : System) where
+  -- staying within, in the words of document 01: every combined word over a word of X stays within the specification
+  pub stays-within-says : (X : Words (Letter s)) → StaysWithin s X ↔ ((α : List (s .Step)) → Combined s α → X (controllerWord s α) → Within s α)
+  stays-within-says X = (λ h. h, λ h. h)
+
   -- "joined to the context, stays within the specification exactly when it lies inside the plain answer"
   pub stays-within-iff-plain : (X : Words (Letter s)) → PrefixClosed X → StaysWithin s X ↔ (X ⊆ Plain s)
   stays-within-iff-plain = within-iff-plain (letter s) (s .outside) (Combined s) (Specified s)

@@ -3,7 +3,7 @@
 use mathlib.Core.Path.{_≡_}
 use mathlib.Core.Option.{Option, some}
 use mathlib.Core.List.{List, [], _∷_, _++_, map}
-use Rattle.words.specs.Words.{run, Runs, Words, PrefixClosed, PlainOf}
+use Rattle.words.specs.Words.{run, Runs, Words, PrefixClosed, JoinedStaysWithin, PlainOf}
 
 pub record System : Type 1 where
   -- context-to-controller signals u, controller replies v, irrigation signals i
@@ -57,7 +57,7 @@ module _ (s : System) where
 
   -- X joined to the context stays within the specification
   abbrev pub StaysWithin : Words Letter → Type 0
-  StaysWithin X = (α : List Step) → Combined α → X (controllerWord α) → Within α
+  StaysWithin X = JoinedStaysWithin letter outside Combined Specified X
 
   -- the plain answer
   abbrev pub Plain : Words Letter
