@@ -1,8 +1,8 @@
 -- Document 01, "Skids to test on": K11, whose plain states double with each context state.
 -- Assumes nothing.
 use Prim.Native.Nat.{ℕ, suc, _-_}
-use mathlib.Core.List.{List, [], _∷_, _++_, flatMap}
-use lib.ListN.{length, replicate}
+use mathlib.Core.List.{List, [], _∷_, flatMap}
+use lib.ListN.{replicate}
 use Rattle.pairs.specs.Scans.{all, any, firstPlace, upward, left, find, same, less, total}
 use Rattle.pairs.specs.Sets.{member, join, add, pairLimit}
 use Rattle.pairs.specs.Lent.{filled, setSize, encoded, encodedSets}
