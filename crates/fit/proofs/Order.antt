@@ -4,14 +4,14 @@ use mathlib.Core.Path.{_≡_, refl}
 use Prim.Native.Nat.{ℕ}
 use mathlib.Core.List.{List, [], _∷_}
 use lib.ListN.{replicate}
-use Rattle.pairs.specs.Scans.{same, less, total}
+use Rattle.pairs.specs.Scans.{allWith, less, total}
 use Rattle.pairs.specs.Sets.{pairLimit}
 use Rattle.records.specs.Limits.{stateLimit, setNumbers}
 use Rattle.pairs.specs.Lent.{setSize}
 use Rattle.records.specs.Layouts.{contextLayout, specificationLayout, controllerLayout}
 use Rattle.records.specs.Bytes.{little, numbers}
 use Rattle.records.specs.Records.{rowsOf}
-use Rattle.records.specs.Faults.{inLimits, fieldsBelow, headFault, rowFault, rowsFault, fault}
+use Rattle.records.specs.Faults.{headFault, rowFault, rowsFault, fault}
 use Rattle.records.specs.Replies.{refusal, unless, _orElse_, faultReply, recordRefusal}
 use Rattle.records.specs.Matching.{skidRefusal, outsideAgree, lettersAgree, productFits, outsideRefusal, lettersRefusal, productRefusal}
 use Rattle.fit.specs.Check.{checkRefusal, check}
@@ -46,10 +46,10 @@ order : (check [] [] [] [] .reply
     ∷ refusal 9 0 0 0
     ∷ refusal 10 0 0 0
     ∷ []
-unfolding same less total pairLimit stateLimit setNumbers setSize contextLayout specificationLayout controllerLayout little numbers rowsOf inLimits fieldsBelow headFault rowFault rowsFault fault unless _orElse_ faultReply recordRefusal skidRefusal outsideAgree lettersAgree productFits outsideRefusal lettersRefusal productRefusal checkRefusal check
+unfolding less total pairLimit stateLimit setNumbers setSize contextLayout specificationLayout controllerLayout little numbers rowsOf headFault rowFault rowsFault fault unless _orElse_ faultReply recordRefusal skidRefusal outsideAgree lettersAgree productFits outsideRefusal lettersRefusal productRefusal checkRefusal check allWith
 order = refl
 
 -- a refused check writes nothing
 unwritten : check (context 5) (specification 1 1 13) (controller 1 1) (replicate 514 7) .sets ≡ replicate 514 7
-unfolding same less total pairLimit stateLimit setNumbers setSize contextLayout specificationLayout controllerLayout little numbers rowsOf inLimits fieldsBelow headFault rowFault rowsFault fault unless _orElse_ faultReply recordRefusal skidRefusal outsideAgree lettersAgree productFits outsideRefusal lettersRefusal productRefusal checkRefusal check
+unfolding less total pairLimit stateLimit setNumbers setSize contextLayout specificationLayout controllerLayout little numbers rowsOf headFault rowFault rowsFault fault unless _orElse_ faultReply recordRefusal skidRefusal outsideAgree lettersAgree productFits outsideRefusal lettersRefusal productRefusal checkRefusal check allWith
 unwritten = refl

@@ -2,8 +2,8 @@
 -- Assumes nothing.
 use mathlib.Core.Path.{_≡_, refl, sym, ap, subst, _∙_}
 use mathlib.Core.Logic.{_↔_, _⊎_, inl, inr, ⊎-elim}
-use mathlib.Core.Bool.{Bool, true, false, false≢true}
-use mathlib.Core.List.{List, [], _∷_}
+use mathlib.Core.Bool.{Bool, true, false}
+use mathlib.Core.List.{List}
 use Prim.Native.Nat.{ℕ, zero, suc, _+_, _-_, _*_, _/_, _%_, _≤_, _<_}
 use native.Mathlib.Omega.{arith}
 use lib.Dec.{T, eqb}
@@ -11,6 +11,7 @@ use lib.ListN.{length, getD}
 use borrow.Author.Tests.{eqb-true}
 use Rattle.words.proofs.Count.{count, count-length, count-less, find}
 use Rattle.pairs.specs.Scans.{if_then_else_, left, same}
+use Rattle.pairs.proofs.Scans.{with-equal}
 use Rattle.pairs.specs.Sets.{member, pairPlace}
 use Rattle.pairs.proofs.Lists.{length-left, part-below, left-mem}
 use Rattle.pairs.proofs.Sets.{pair-context, pair-specification}
@@ -20,17 +21,6 @@ use Rattle.records.specs.Continues.{everyInput}
 use Rattle.fit.specs.Triples.{sweep, grown, startSets, triples}
 use Rattle.fit.proofs.Sweep.{Held, Further, sweep-adds, sweep-law, sweep-length, sweep-fixed}
 use Rattle.fit.proofs.Swept.{swept, swept-length, swept-reached, swept-start, Reached, along}
-
-same-true : (xs ys : List ℕ) → same xs ys ≡ true → xs ≡ ys
-unfolding same
-same-true [] [] e = refl
-same-true [] (y ∷ ys) e = absurd (false≢true e)
-same-true (x ∷ xs) [] e = absurd (false≢true e)
-same-true (x ∷ xs) (y ∷ ys) e = go (eqb x y) refl (same-true xs ys) e
-  where
-    go : (b : Bool) → eqb x y ≡ b → (same xs ys ≡ true → xs ≡ ys) → (if b then same xs ys else false) ≡ true → x ∷ xs ≡ y ∷ ys
-    go true h rest e = λ i. eqb-true x y h i ∷ rest e i
-    go false h rest e = absurd (false≢true e)
 
 further-map : {k : Skid} {asked : ℕ → ℕ → Bool} {next : List ℕ} {P Q : ℕ → ℕ → ℕ → Type 0} {a c d : ℕ} → ((a c d : ℕ) → P a c d → Q a c d) → Further k asked next P a c d → Further k asked next Q a c d
 further-map h f = record { a = f .a; c = f .c; d = f .d; x = f .x; from = h (f .a) (f .c) (f .d) (f .from); context = f .context; specification = f .specification; controller = f .controller }
@@ -147,7 +137,7 @@ module _ (k : Skid) (asked : ℕ → ℕ → Bool) (legal : Legal k) (states : �
       go : (b : Bool) → same sets (more k states next sets) ≡ b → (amount sets < amount (more k states next sets)) ⊎ Settled sets
           → (amount sets < amount (more k states next sets) → Settled (grown k states next f (more k states next sets))) → (Settled sets → Settled (grown k states next f (more k states next sets)))
           → Settled (if b then sets else grown k states next f (more k states next sets))
-      go true p n r s = λ a c d h. subst (λ l. In l a c d) (sym (same-true sets (more k states next sets) p)) h
+      go true p n r s = λ a c d h. subst (λ l. In l a c d) (sym (with-equal eqb eqb-true sets (more k states next sets) p)) h
       go false p n r s = ⊎-elim r s n
 
   -- the fuel of the definition suffices

@@ -5,7 +5,7 @@ use mathlib.Core.Bool.{Bool, _&&_}
 use mathlib.Core.List.{List, [], _∷_, _++_, flatMap}
 use lib.Dec.{eqb}
 use lib.ListN.{length, replicate}
-use Rattle.pairs.specs.Scans.{all, any, firstPlace, upward, left, find, same, less, total}
+use Rattle.pairs.specs.Scans.{allWith, all, any, firstPlace, upward, left, find, same, less, total}
 use Rattle.pairs.specs.Sets.{member, join, add, pairLimit}
 use Rattle.pairs.specs.Lent.{filled, setSize, encoded, encodedSets}
 use Rattle.records.specs.declared.Reply.{Reply}
@@ -13,7 +13,7 @@ use Rattle.records.specs.Limits.{stateLimit, setNumbers}
 use Rattle.records.specs.Layouts.{contextLayout, specificationLayout, controllerLayout}
 use Rattle.records.specs.Bytes.{little, numbers}
 use Rattle.records.specs.Records.{rowsOf}
-use Rattle.records.specs.Faults.{inLimits, fieldsBelow, headFault, rowFault, rowsFault, fault}
+use Rattle.records.specs.Faults.{headFault, rowFault, rowsFault, fault}
 use Rattle.records.specs.Replies.{unless, _orElse_, faultReply, recordRefusal}
 use Rattle.records.specs.NextTables.{tableOf}
 use Rattle.records.specs.Tables.{specificationTable, skidOf, specNext, letters, controllerTable, pairs}
@@ -26,7 +26,7 @@ use Rattle.fit.specs.Verdict.{ownStates, incomplete, leaves, blocks, ver
 use Rattle.fit.specs.Check.{CheckOutcome, checkRefusal, setsNamed, judge, check}
 
 unfoldable pub checks : Case → Checking → Bool
-unfolding all any firstPlace upward left find same less total member join add pairLimit filled setSize encoded encodedSets flatMap stateLimit setNumbers contextLayout specificationLayout controllerLayout little numbers rowsOf inLimits fieldsBelow headFault rowFault rowsFault fault unless _orElse_ faultReply recordRefusal tableOf specificationTable skidOf specNext letters controllerTable pairs skidRefusal outsideAgree lettersAgree productFits outsideRefusal lettersRefusal productRefusal meet scan discover everyInput answers continuesOn continues withTriple further visit sweep grown startSets triples ownStates incomplete leaves blocks verdict checkRefusal setsNamed judge check
+unfolding all any firstPlace upward left find less total member join add pairLimit filled setSize encoded encodedSets flatMap stateLimit setNumbers contextLayout specificationLayout controllerLayout little numbers rowsOf headFault rowFault rowsFault fault unless _orElse_ faultReply recordRefusal tableOf specificationTable skidOf specNext letters controllerTable pairs skidRefusal outsideAgree lettersAgree productFits outsideRefusal lettersRefusal productRefusal meet scan discover everyInput answers continuesOn continues withTriple further visit sweep grown startSets triples ownStates incomplete leaves blocks verdict checkRefusal setsNamed judge check allWith
 checks c t =
     let lent : List ℕ = replicate 514 7 in
     let outcome : CheckOutcome = check (c .context) (c .specification) (t .controller) lent in

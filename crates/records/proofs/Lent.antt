@@ -4,14 +4,14 @@ use mathlib.Core.Path.{_≡_, refl}
 use Prim.Native.Nat.{ℕ}
 use mathlib.Core.List.{List, [], _∷_, _++_, flatMap}
 use lib.ListN.{replicate}
-use Rattle.pairs.specs.Scans.{firstPlace, same, less, total}
+use Rattle.pairs.specs.Scans.{allWith, firstPlace, less, total}
 use Rattle.pairs.specs.Lent.{filled}
 use Rattle.records.specs.Counts.{noCounts}
 use Rattle.records.specs.Limits.{stateLimit, nextNumbers}
 use Rattle.records.specs.Layouts.{contextLayout, specificationLayout, controllerLayout}
 use Rattle.records.specs.Bytes.{little, bytesOf, numbers, written}
 use Rattle.records.specs.Records.{rowsOf, recordOf}
-use Rattle.records.specs.Faults.{inLimits, fieldsBelow, headFault, rowFault, rowsFault, fault}
+use Rattle.records.specs.Faults.{headFault, rowFault, rowsFault, fault}
 use Rattle.records.specs.Replies.{success, refusal, unless, _orElse_, faultReply, recordRefusal}
 use Rattle.records.specs.NextTables.{tableOf, listing}
 use Rattle.records.specs.Tables.{controllerTable}
@@ -39,7 +39,7 @@ reads : (readContext (0x0D ∷ 0 ∷ 0x43 ∷ 0x58 ∷ 1 ∷ 2 ∷ 3 ∷ 4 ∷ 5
     ∷ record { reply = refusal 3 2 0 0; counts = noCounts }
     ∷ record { reply = refusal 7 1 1 0; counts = noCounts }
     ∷ []
-unfolding same less total stateLimit contextLayout specificationLayout little numbers rowsOf inLimits fieldsBelow headFault rowFault rowsFault fault faultReply recordRefusal readUnless readContext readSpecification
+unfolding less total stateLimit contextLayout specificationLayout little numbers rowsOf headFault rowFault rowsFault fault faultReply recordRefusal readUnless readContext readSpecification allWith
 reads = refl
 
 -- a controller: its counts, the table, zeros up to 8,192, and what was beyond; nothing where the buffer is too short or the record is refused
@@ -48,12 +48,12 @@ controller : (readController bytes (replicate 8194 7) .reading ∷ readControlle
     ∷ record { reply = refusal 10 0 0 0; counts = noCounts }
     ∷ record { reply = refusal 1 3 0 0; counts = noCounts }
     ∷ []
-unfolding bytes same less total stateLimit nextNumbers controllerLayout little numbers rowsOf inLimits fieldsBelow headFault rowFault rowsFault fault unless _orElse_ faultReply recordRefusal readUnless tableOf controllerTable controllerRefusal readController filled
+unfolding bytes less total stateLimit nextNumbers controllerLayout little numbers rowsOf headFault rowFault rowsFault fault unless _orElse_ faultReply recordRefusal readUnless tableOf controllerTable controllerRefusal readController filled allWith
 controller = refl
 
 tables : (readController bytes (replicate 8194 7) .next ∷ readController bytes (7 ∷ 7 ∷ []) .next ∷ readController (0 ∷ bytes) (7 ∷ 7 ∷ []) .next ∷ []) ≡
     (next ++ (replicate 8184 0 ++ (7 ∷ 7 ∷ []))) ∷ (7 ∷ 7 ∷ []) ∷ (7 ∷ 7 ∷ []) ∷ []
-unfolding bytes next same less total filled stateLimit nextNumbers controllerLayout little numbers rowsOf inLimits fieldsBelow headFault rowFault rowsFault fault unless _orElse_ faultReply recordRefusal tableOf readUnless controllerTable controllerRefusal readController
+unfolding bytes next less total filled stateLimit nextNumbers controllerLayout little numbers rowsOf headFault rowFault rowsFault fault unless _orElse_ faultReply recordRefusal tableOf readUnless controllerTable controllerRefusal readController allWith
 tables = refl
 
 -- what writing replies: the record fits exactly from place 1 of 27 bytes; a count outside its limit; the table lacks a place; one byte too few; a
@@ -78,13 +78,13 @@ replies : (writeController 2 2 2 next (replicate 27 7) 1 .reply
     ∷ refusal 10 0 0 0
     ∷ refusal 5 3 1 0
     ∷ []
-unfolding next total stateLimit controllerLayout bytesOf written recordOf flatMap inLimits unless _orElse_ listing firstPlace badPlace controllerBytes placeRefusal writeRefusal writeController
+unfolding next total stateLimit controllerLayout bytesOf written recordOf flatMap unless _orElse_ listing firstPlace badPlace controllerBytes placeRefusal writeRefusal writeController allWith
 replies = refl
 
 -- and what it leaves: the record's bytes from the start place on, all other bytes; a refused write changes nothing
 writes : (writeController 2 2 2 next (replicate 28 7) 1 .buffer ∷ writeController 2 2 1 next (replicate 20 7) 0 .buffer ∷ []) ≡
     (7 ∷ (bytes ++ (7 ∷ []))) ∷ replicate 20 7 ∷ []
-unfolding bytes next total stateLimit controllerLayout bytesOf written recordOf flatMap inLimits unless _orElse_ listing firstPlace badPlace controllerBytes placeRefusal writeRefusal writeController
+unfolding bytes next total stateLimit controllerLayout bytesOf written recordOf flatMap unless _orElse_ listing firstPlace badPlace controllerBytes placeRefusal writeRefusal writeController allWith
 writes = refl
 
 -- U=2, V=3, one state, which stays by (1, 2): read, and written
@@ -94,5 +94,5 @@ unequal : (readController (0x0C ∷ 0 ∷ 0x43 ∷ 0x54 ∷ 2 ∷ 3 ∷ 1 ∷ 0 
     (65535 ∷ 65535 ∷ 65535 ∷ 65535 ∷ 65535 ∷ 0 ∷ replicate 8186 0)
     ∷ (0x0C ∷ 0 ∷ 0x43 ∷ 0x54 ∷ 2 ∷ 3 ∷ 1 ∷ 0 ∷ 0 ∷ 0 ∷ 1 ∷ 2 ∷ 0 ∷ 0 ∷ [])
     ∷ []
-unfolding same less total filled stateLimit nextNumbers controllerLayout little numbers rowsOf bytesOf written recordOf flatMap inLimits fieldsBelow headFault rowFault rowsFault fault unless _orElse_ faultReply recordRefusal tableOf controllerTable readUnless controllerRefusal readController listing firstPlace badPlace controllerBytes placeRefusal writeRefusal writeController
+unfolding less total filled stateLimit nextNumbers controllerLayout little numbers rowsOf bytesOf written recordOf flatMap headFault rowFault rowsFault fault unless _orElse_ faultReply recordRefusal tableOf controllerTable readUnless controllerRefusal readController listing firstPlace badPlace controllerBytes placeRefusal writeRefusal writeController allWith
 unequal = refl

@@ -1,4 +1,4 @@
-pub mod Order
+pub mod Keys
 pub mod Sound
 pub mod NextTables
 pub mod TableRows

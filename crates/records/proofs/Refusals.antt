@@ -4,7 +4,7 @@ use mathlib.Core.Path.{_≡_, refl}
 use Prim.Native.Nat.{ℕ}
 use mathlib.Core.List.{List, [], _∷_, map}
 use lib.ListN.{replicate}
-use Rattle.pairs.specs.Scans.{same, less, total}
+use Rattle.pairs.specs.Scans.{allWith, less, total}
 use Rattle.records.specs.declared.Fault.{Fault}
 use Rattle.records.specs.declared.Fault.the-variants.{Sound, Length, Kind, Cut, Limit, Code, EqualKey, LowerKey}
 use Rattle.records.specs.Limits.{stateLimit}
@@ -12,7 +12,7 @@ use Rattle.records.specs.Layouts.{Layout, contextLayout, specificationLa
 use Rattle.records.specs.Bytes.{little, numbers}
 use Rattle.records.specs.Records.{rowsOf}
 use Rattle.records.specs.Replies.{refusal, fine, faultReply}
-use Rattle.records.specs.Faults.{inLimits, fieldsBelow, headFault, rowFault, rowsFault, fault}
+use Rattle.records.specs.Faults.{headFault, rowFault, rowsFault, fault}
 
 record Sample : Type 0 where
   bytes : List ℕ
@@ -22,7 +22,7 @@ abbrev gives : List ℕ → Fault → Sample
 gives b f = record { bytes = b; finding = f }
 
 found : Layout → List Sample → List Fault
-unfolding same less total stateLimit contextLayout specificationLayout controllerLayout little numbers rowsOf inLimits fieldsBelow headFault rowFault rowsFault fault
+unfolding less total stateLimit contextLayout specificationLayout controllerLayout little numbers rowsOf headFault rowFault rowsFault fault allWith
 found l samples = map (λ s. fault l (s .bytes)) samples
 
 asked : List Sample → List Fault

@@ -4,7 +4,6 @@ use mathlib.Core.Path.{_≡_, refl, sym, ap, subst, _∙_}
 use mathlib.Core.Bool.{Bool, true, false, not, _&&_, _||_, true≢false, false≢true}
 use mathlib.Core.List.{List, [], _∷_, List·Memᴰ, List·Memᴰ·head, List·Memᴰ·tail, List·Memᴰ·not-nil}
 use Prim.Native.Nat.{ℕ, zero, suc, _+_, _-_, _%_, _≤_, _<_}
-use native.Mathlib.Nat.{not-suc-le-zero, le-of-suc-le-suc}
 use native.Mathlib.Omega.{arith}
 use lib.Dec.{T, leb, ltb, eqb, leb→le, ltb→lt}
 use lib.ListN.{length, getD, drop, length-take}
@@ -12,13 +11,14 @@ use lib.Seq.{ext-getD, getD-take}
 use borrow.Author.Tests.{not-false}
 use mir.Facts.{and-yes}
 use Rattle.pairs.specs.Scans.{if_then_else_, same, less, total}
+use Rattle.pairs.proofs.Scans.{with-at}
 use Rattle.records.specs.declared.Fault.{Fault}
 use Rattle.records.specs.declared.Fault.the-variants.{Sound, Length, Kind, Cut, Limit, Code, EqualKey, LowerKey}
 use Rattle.records.specs.Layouts.{Layout}
 use Rattle.records.specs.Bytes.{numbers}
 use Rattle.records.specs.Records.{rowsOf, lengthIn, kindIn, headSize, rowSize, countsIn, rowCount, rowsIn}
 use Rattle.records.specs.Faults.{isSound, inLimits, fieldsBelow, keyOf, headFault, rowFault, rowsFault, fault}
-use Rattle.records.proofs.Order.{less-self, less-trans, less-other}
+use Rattle.records.proofs.Keys.{less-self, less-trans, less-other}
 
 sound : (f : Fault) → isSound f ≡ true → f ≡ Sound
 sound Sound e = refl
@@ -57,22 +57,6 @@ unfolding rowsOf
 rows-length ws zero b r m = absurd (List·Memᴰ·not-nil m)
 rows-length ws (suc n) b r (List·Memᴰ·head e) = ap length e ∙ length-numbers ws b
 rows-length ws (suc n) b r (List·Memᴰ·tail m) = rows-length ws n (drop (total ws) b) r m
-
-within-at : (xs ls : List ℕ) → T (inLimits xs ls) → (j : ℕ) → j < length xs → (1 ≤ getD xs j 0) × (getD xs j 0 ≤ getD ls j 0)
-unfolding inLimits
-within-at [] ls t j h = absurd (not-suc-le-zero h)
-within-at (x ∷ xs) [] t j h = absurd t
-within-at (x ∷ xs) (l ∷ ls) t zero h =
-    let (t₁, t₂) = and-yes (leb 1 x) (leb x l) (and-yes (leb 1 x && leb x l) (inLimits xs ls) t .0) in
-    (leb→le 1 x t₁, leb→le x l t₂)
-within-at (x ∷ xs) (l ∷ ls) t (suc j) h = within-at xs ls (and-yes (leb 1 x && leb x l) (inLimits xs ls) t .1) j (le-of-suc-le-suc h)
-
-below-at : (counts xs ks : List ℕ) → T (fieldsBelow counts xs ks) → (j : ℕ) → j < length xs → getD xs j 0 < getD counts (getD ks j 0) 0
-unfolding fieldsBelow
-below-at counts [] ks t j h = absurd (not-suc-le-zero h)
-below-at counts (x ∷ xs) [] t j h = absurd t
-below-at counts (x ∷ xs) (k ∷ ks) t zero h = ltb→lt x (getD counts k 0) (and-yes (ltb x (getD counts k 0)) (fieldsBelow counts xs ks) t .0)
-below-at counts (x ∷ xs) (k ∷ ks) t (suc j) h = below-at counts xs ks (and-yes (ltb x (getD counts k 0)) (fieldsBelow counts xs ks) t .1) j (le-of-suc-le-suc h)
 
 module _ (l : Layout) where
   -- a row that is sound, after the key before it
@@ -158,11 +142,15 @@ module _ (l : Layout) (b : List ℕ) (e : fault l b ≡ Sound) where
 
   -- "a code or state" is below its count
   pub field-below : (r : List ℕ) → List·Memᴰ r (rowsIn l b) → (j : ℕ) → j < length (l .fieldSizes) → getD r j 0 < getD (countsIn l b) (getD (l .below) j 0) 0
-  field-below r m j h = below-at (countsIn l b) r (l .below) (fields-below l (countsIn l b) [] (rowsIn l b) rising r m) j (subst (λ n. j < n) (sym (row-length r m)) h)
+  field-below r m j h = ltb→lt _ _ (with-at (λ x k. ltb x (getD (countsIn l b) k 0)) r (l .below) 0 0 (fields-below l (countsIn l b) [] (rowsIn l b) rising r m) j
+      (subst (λ n. j < n) (sym (row-length r m)) h))
 
   -- a count is at least 1 and at most its limit
   pub count-within : (j : ℕ) → j < length (l .countSizes) → (1 ≤ getD (countsIn l b) j 0) × (getD (countsIn l b) j 0 ≤ getD (l .limits) j 0)
-  count-within j h = within-at (countsIn l b) (l .limits) (counts-within l b (parts .0)) j (subst (λ n. j < n) (sym (length-numbers (l .countSizes) (drop 4 b))) h)
+  count-within j h =
+      let t = with-at (λ x l. leb 1 x && leb x l) (countsIn l b) (l .limits) 0 0 (counts-within l b (parts .0)) j (subst (λ n. j < n) (sym (length-numbers (l .countSizes) (drop 4 b))) h) in
+      let (low, high) = and-yes (leb 1 (getD (countsIn l b) j 0)) (leb (getD (countsIn l b) j 0) (getD (l .limits) j 0)) t in
+      (leb→le 1 (getD (countsIn l b) j 0) low, leb→le (getD (countsIn l b) j 0) (getD (l .limits) j 0) high)
 
   -- "Keys rise strictly": no key twice
   pub one-key : (r r′ : List ℕ) → List·Memᴰ r (rowsIn l b) → List·Memᴰ r′ (rowsIn l b) → ((j : ℕ) → j < l .keySize → getD r j 0 ≡ getD r′ j 0) → r ≡ r′

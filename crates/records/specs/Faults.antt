@@ -2,11 +2,11 @@
 -- within it 5, 6, 7".
 -- Assumes nothing.
 use Prim.Native.Nat.{ℕ, suc, _+_, _-_, _%_}
-use mathlib.Core.Bool.{Bool, true, false, not, _&&_, _||_}
+use mathlib.Core.Bool.{Bool, not, _&&_, _||_}
 use mathlib.Core.List.{List, [], _∷_}
 use lib.Dec.{leb, ltb, eqb}
 use lib.ListN.{length, getD, take}
-use Rattle.pairs.specs.Scans.{if_then_else_, same, less}
+use Rattle.pairs.specs.Scans.{if_then_else_, allWith, same, less}
 use Rattle.records.specs.declared.Fault.{Fault}
 use Rattle.records.specs.declared.Fault.the-variants.{Sound, Length, Kind, Cut, Limit, Code, EqualKey, LowerKey}
 use Rattle.records.specs.Layouts.{Layout}
@@ -38,18 +38,12 @@ abbrev pub isSound : Fault → Bool
 isSound f = eqb (faultNumber f) 0
 
 -- each count is at least 1 and at most its limit
-unfoldable pub inLimits : List ℕ → List ℕ → Bool
-inLimits [] [] = true
-inLimits [] (l ∷ ls) = false
-inLimits (x ∷ xs) [] = false
-inLimits (x ∷ xs) (l ∷ ls) = leb 1 x && leb x l && inLimits xs ls
+abbrev pub inLimits : List ℕ → List ℕ → Bool
+inLimits counts limits = allWith (λ x l. leb 1 x && leb x l) counts limits
 
--- each field is below its count
-unfoldable pub fieldsBelow : List ℕ → List ℕ → List ℕ → Bool
-fieldsBelow counts [] [] = true
-fieldsBelow counts [] (k ∷ ks) = false
-fieldsBelow counts (x ∷ xs) [] = false
-fieldsBelow counts (x ∷ xs) (k ∷ ks) = ltb x (getD counts k 0) && fieldsBelow counts xs ks
+-- each field is below its count, which stands at the place given for it
+abbrev pub fieldsBelow : List ℕ → List ℕ → List ℕ → Bool
+fieldsBelow counts row places = allWith (λ x k. ltb x (getD counts k 0)) row places
 
 module _ (l : Layout) where
   -- 1 "fewer than 4 bytes, or the length is not the bytes that follow it"; 2 "kind is not the one expected"; 3 "counts cut short, or a broken

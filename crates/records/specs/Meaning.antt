@@ -1,4 +1,4 @@
--- What two tables, and the next table of a controller, mean: a system of the theory, and the controller words that a next table can run.
+-- What two tables, and the next table of a controller, mean: a system of the theory, and where a next table leads on its letters.
 -- Assumes nothing.
 use mathlib.Core.Path.{_≡_}
 use mathlib.Core.Logic.{_⊎_}
@@ -8,7 +8,6 @@ use mathlib.Core.List.{List, List·Memᴰ}
 use Prim.Native.Nat.{ℕ, _≤_, _<_}
 use lib.Dec.{T}
 use lib.ListN.{getD}
-use Rattle.words.specs.Words.{Words, Runs}
 use Rattle.words.specs.System.{System, Letter}
 use Rattle.words.specs.Codes.{Below}
 use Rattle.pairs.specs.Sets.{member, pairPlace}
@@ -77,10 +76,6 @@ module _ (k : Skid) (asked : ℕ → ℕ → Bool) where
   -- where a next table leads from the state q on a letter
   abbrev pub tableStep : List ℕ → ℕ → Letter system → Option ℕ
   tableStep next q l = there (nextAt k next q (letterOf l))
-
-  -- the controller words that a next table can run from state 0
-  abbrev pub TableWords : List ℕ → Words (Letter system)
-  TableWords next w = Runs (tableStep next) 0 w
 
 -- the pair (a, c) is in the set
 abbrev pub InSet : Skid → ℕ → ℕ → ℕ → Type 0

@@ -4,14 +4,14 @@ use mathlib.Core.Path.{_≡_, refl}
 use Prim.Native.Nat.{ℕ}
 use mathlib.Core.List.{List, [], _∷_, map}
 use lib.ListN.{replicate}
-use Rattle.pairs.specs.Scans.{same, less, total}
+use Rattle.pairs.specs.Scans.{allWith, less, total}
 use Rattle.pairs.specs.Sets.{pairLimit}
 use Rattle.records.specs.Limits.{stateLimit, setNumbers, nextNumbers}
 use Rattle.pairs.specs.Lent.{setSize}
 use Rattle.records.specs.Layouts.{contextLayout, specificationLayout}
 use Rattle.records.specs.Bytes.{little, numbers}
 use Rattle.records.specs.Records.{rowsOf}
-use Rattle.records.specs.Faults.{inLimits, fieldsBelow, headFault, rowFault, rowsFault, fault}
+use Rattle.records.specs.Faults.{headFault, rowFault, rowsFault, fault}
 use Rattle.records.specs.Replies.{success, refusal, unless, _orElse_, faultReply, recordRefusal}
 use Rattle.records.specs.Matching.{skidRefusal, outsideAgree, productFits, outsideRefusal, productRefusal}
 use Rattle.solver.specs.declared.Answer.the-variants.{Table, TooMany, None}
@@ -42,7 +42,7 @@ order : (solve 2 [] [] [] [] .reply
     ∷ refusal 10 0 0 0
     ∷ refusal 10 0 0 0
     ∷ []
-unfolding same less total pairLimit stateLimit setSize setNumbers nextNumbers contextLayout specificationLayout little numbers rowsOf inLimits fieldsBelow headFault rowFault rowsFault fault unless _orElse_ faultReply recordRefusal skidRefusal outsideAgree productFits outsideRefusal productRefusal solveRefusal solveFor solveBy solve
+unfolding less total pairLimit stateLimit setSize setNumbers nextNumbers contextLayout specificationLayout little numbers rowsOf headFault rowFault rowsFault fault unless _orElse_ faultReply recordRefusal skidRefusal outsideAgree productFits outsideRefusal productRefusal solveRefusal solveFor solveBy solve allWith
 order = refl
 
 -- a refusal before 11 writes nothing
@@ -50,7 +50,7 @@ stays : (solve 2 [] [] (replicate 514 7) (replicate 8194 9) ∷ solve 1 [] [] (r
     record { reply = refusal 13 0 0 0; sets = replicate 514 7; next = replicate 8194 9 }
     ∷ record { reply = refusal 1 1 0 0; sets = replicate 514 7; next = replicate 8194 9 }
     ∷ []
-unfolding same less total contextLayout little numbers rowsOf inLimits fieldsBelow headFault rowFault rowsFault fault unless _orElse_ faultReply recordRefusal skidRefusal solveRefusal solveFor solveBy solve
+unfolding less total contextLayout little numbers rowsOf headFault rowFault rowsFault fault unless _orElse_ faultReply recordRefusal skidRefusal solveRefusal solveFor solveBy solve allWith
 stays = refl
 
 -- the number and the values of each answer

@@ -4,11 +4,11 @@ use mathlib.Core.Path.{_≡_, refl}
 use Prim.Native.Nat.{ℕ, _+_}
 use mathlib.Core.List.{List, [], _∷_, _++_}
 use lib.ListN.{replicate}
-use Rattle.pairs.specs.Scans.{same, less, total}
+use Rattle.pairs.specs.Scans.{allWith, less, total}
 use Rattle.records.specs.Layouts.{contextLayout, specificationLayout}
 use Rattle.records.specs.Bytes.{little, numbers}
 use Rattle.records.specs.Records.{rowsOf}
-use Rattle.records.specs.Faults.{inLimits, fieldsBelow, headFault, rowFault, rowsFault, fault}
+use Rattle.records.specs.Faults.{headFault, rowFault, rowsFault, fault}
 use Rattle.records.specs.Replies.{success, refusal, unless, _orElse_, faultReply, recordRefusal}
 use Rattle.records.specs.Matching.{skidRefusal}
 use Rattle.records.specs.Limits.{stateLimit, setNumbers, nextNumbers}
@@ -63,7 +63,7 @@ solves : (solveText (replicate 28690 0)
     ∷ refusedLine one 1
     ∷ refusedLine one 2
     ∷ []
-unfolding one thirteen same less total stateLimit setSize setNumbers nextNumbers contextLayout specificationLayout little numbers rowsOf inLimits fieldsBelow headFault rowFault rowsFault fault unless _orElse_ faultReply recordRefusal skidRefusal solveRefusal solveFor solveBy solve decimal digits line statesWord roundsWord refusedWord recordWord rowWord refusedText solvedText solveLimit recordEnd firstRecord behind solvePrinted solveText
+unfolding one thirteen less total stateLimit setSize setNumbers nextNumbers contextLayout specificationLayout little numbers rowsOf headFault rowFault rowsFault fault unless _orElse_ faultReply recordRefusal skidRefusal solveRefusal solveFor solveBy solve decimal digits line statesWord roundsWord refusedWord recordWord rowWord refusedText solvedText solveLimit recordEnd firstRecord behind solvePrinted solveText allWith
 solves = refl
 
 -- one byte too many, and none too many; no byte at all; a context and no specification; a context, a specification and no controller
@@ -79,5 +79,5 @@ checks : (fitText (replicate 77849 0)
     ∷ refusedLine one 2
     ∷ refusedLine one 3
     ∷ []
-unfolding one same less total stateLimit setSize setNumbers contextLayout specificationLayout little numbers rowsOf inLimits fieldsBelow headFault rowFault rowsFault fault unless _orElse_ faultReply recordRefusal skidRefusal checkRefusal check decimal digits line roundsWord refusedWord recordWord rowWord refusedText checkedText fitLimit recordEnd firstRecord behind fitText
+unfolding one less total stateLimit setSize setNumbers contextLayout specificationLayout little numbers rowsOf headFault rowFault rowsFault fault unless _orElse_ faultReply recordRefusal skidRefusal checkRefusal check decimal digits line roundsWord refusedWord recordWord rowWord refusedText checkedText fitLimit recordEnd firstRecord behind fitText allWith
 checks = refl

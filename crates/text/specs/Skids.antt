@@ -2,14 +2,14 @@
 -- Assumes nothing.
 use mathlib.Core.Bool.{Bool, _&&_}
 use mathlib.Core.List.{_∷_, _++_, flatMap}
-use Rattle.pairs.specs.Scans.{all, any, firstPlace, upward, left, find, same, less, total}
+use Rattle.pairs.specs.Scans.{allWith, all, any, firstPlace, upward, left, find, same, less, total}
 use Rattle.pairs.specs.Sets.{member, join, add, pairLimit}
 use Rattle.pairs.specs.Lent.{filled, setSize, encoded, encodedSets}
 use Rattle.records.specs.Limits.{stateLimit, setNumbers, nextNumbers}
 use Rattle.records.specs.Layouts.{contextLayout, specificationLayout}
 use Rattle.records.specs.Bytes.{little, numbers}
 use Rattle.records.specs.Records.{rowsOf}
-use Rattle.records.specs.Faults.{inLimits, fieldsBelow, headFault, rowFault, rowsFault, fault}
+use Rattle.records.specs.Faults.{headFault, rowFault, rowsFault, fault}
 use Rattle.records.specs.Replies.{unless, _orElse_, faultReply, recordRefusal}
 use Rattle.records.specs.NextTables.{tableOf, listing}
 use Rattle.records.specs.Tables.{specificationTable, skidOf, specNext, letters, pairs}
@@ -19,7 +19,7 @@ use Rattle.records.specs.Continues.{everyInput, answers, continuesOn, continues
 use Rattle.records.specs.Skids.{Case, Printing}
 use Rattle.fit.specs.Skids.{checks}
 use Rattle.solver.specs.Plain.{reached, byRow, byPair, after, startSet, plain}
-use Rattle.solver.specs.Rounds.{sameKept, round, deletion, lasting}
+use Rattle.solver.specs.Rounds.{round, deletion, lasting}
 use Rattle.solver.specs.Unblocked.{setsOf, passes, unblocked, afresh}
 use Rattle.solver.specs.Solve.{plainSolution, unblockedSolution, solutionOf, solution, solveRefusal, solved, solveFor, solveBy, solve}
 use Rattle.solver.specs.Skids.{solves}
@@ -29,7 +29,7 @@ use Rattle.text.specs.Programs.{solvePrinted, solveText}
 
 -- "With mode byte 1, `solve` prints exactly"
 unfoldable pub prints : Case → Printing → Bool
-unfolding all any firstPlace upward left find same less total member join add pairLimit filled setSize encoded encodedSets flatMap stateLimit setNumbers nextNumbers contextLayout specificationLayout little numbers rowsOf inLimits fieldsBelow headFault rowFault rowsFault fault unless _orElse_ faultReply recordRefusal tableOf listing specificationTable skidOf specNext letters pairs skidRefusal outsideAgree productFits outsideRefusal productRefusal meet scan discover everyInput answers continuesOn continues reached byRow byPair after startSet plain sameKept round deletion lasting passes unblocked afresh setsOf plainSolution unblockedSolution solutionOf solution solveRefusal solved solveFor solveBy solve decimal digits line statesWord roundsWord refusedWord recordWord rowWord refusedText solvedText solveLimit recordEnd firstRecord behind solvePrinted solveText
+unfolding all any firstPlace upward left find less total member join add pairLimit filled setSize encoded encodedSets flatMap stateLimit setNumbers nextNumbers contextLayout specificationLayout little numbers rowsOf headFault rowFault rowsFault fault unless _orElse_ faultReply recordRefusal tableOf listing specificationTable skidOf specNext letters pairs skidRefusal outsideAgree productFits outsideRefusal productRefusal meet scan discover everyInput answers continuesOn continues reached byRow byPair after startSet plain round deletion lasting passes unblocked afresh setsOf plainSolution unblockedSolution solutionOf solution solveRefusal solved solveFor solveBy solve decimal digits line statesWord roundsWord refusedWord recordWord rowWord refusedText solvedText solveLimit recordEnd firstRecord behind solvePrinted solveText allWith
 prints c p = same (solveText (p .mode ∷ (c .context ++ c .specification))) (p .text)
 
 -- each answer in each mode, each verdict and each printed text that document 01 gives for the skid

@@ -9,7 +9,7 @@ use native.Mathlib.Omega.{arith}
 use lib.Dec.{ltb, eqb}
 use lib.ListN.{length}
 use borrow.Author.Tests.{ltb-true, ltb-false, eqb-true, eqb-false, lt-ltb, le-ltb, eq-eqb}
-use Rattle.pairs.specs.Scans.{if_then_else_, same, less}
+use Rattle.pairs.specs.Scans.{allWith, if_then_else_, same, less}
 
 -- one of three
 data Compared (x y : ℕ) : Type 0 where
@@ -62,7 +62,7 @@ less-trans (x ∷ xs) (y ∷ ys) (z ∷ zs) p q = front-less x z xs zs (go (less
 
 -- neither the same nor before: after
 pub less-other : (xs ys : List ℕ) → length xs ≡ length ys → same xs ys ≡ false → less xs ys ≡ false → less ys xs ≡ true
-unfolding less same
+unfolding less allWith
 less-other [] [] l p q = absurd (true≢false p)
 less-other [] (y ∷ ys) l p q = absurd (true≢false q)
 less-other (x ∷ xs) [] l p q = absurd (omega arith)
