@@ -3,7 +3,7 @@
 use mathlib.Core.Path.{_≡_, refl}
 use mathlib.Core.List.{[], _∷_, _++_}
 use lib.ListN.{replicate}
-use Rattle.records.specs.Replies.{success, refusal}
+use Rattle.rules.specs.Replies.{success, refusal}
 use Rattle.cases.specs.K11.{k11Solved}
 
 pub ten-states : k11Solved 10 .reply ≡ success 512 0

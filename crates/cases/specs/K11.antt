@@ -4,7 +4,7 @@ use Prim.Native.Nat.{ℕ, suc, _-_}
 use mathlib.Core.List.{List, [], _∷_, flatMap}
 use lib.ListN.{replicate}
 use Rattle.pairs.specs.Scans.{upward, left}
-use Rattle.records.specs.Skids.{contextRecord, freeTwo}
+use Rattle.rules.specs.Skids.{contextRecord, freeTwo}
 use Rattle.solver.specs.Solve.{SolveOutcome}
 use Rattle.solver.specs.Skids.{computed}
 

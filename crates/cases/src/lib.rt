@@ -1,1 +1,1 @@
-// Skids that take longer to compute than those of crate records. They have no code yet.
+// Skids that take longer to compute than those of crate rules. They have no code yet.

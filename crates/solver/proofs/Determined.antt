@@ -4,7 +4,7 @@ use mathlib.Core.Path.{_≡_}
 use mathlib.Core.List.{List}
 use Prim.Native.Nat.{ℕ}
 use Rattle.pairs.proofs.Determined.{determined}
-use Rattle.records.specs.declared.Reply.{Reply}
+use Rattle.rules.specs.declared.Reply.{Reply}
 use Rattle.solver.specs.declared.Wanted.{Wanted}
 use Rattle.solver.specs.declared.Mode.{Mode}
 use Rattle.solver.specs.Solve.{ModeOf, SolveOutcome, solveFor, solve, Gives, Solved, SolvedFor}

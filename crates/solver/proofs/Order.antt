@@ -6,14 +6,14 @@ use mathlib.Core.List.{List, [], _∷_, map}
 use lib.ListN.{replicate}
 use Rattle.pairs.specs.Scans.{allWith, less, total}
 use Rattle.pairs.specs.Sets.{pairLimit}
-use Rattle.records.specs.Limits.{stateLimit, setNumbers, nextNumbers}
+use Rattle.rules.specs.Limits.{stateLimit, setNumbers, nextNumbers}
 use Rattle.pairs.specs.Lent.{setSize}
-use Rattle.records.specs.Layouts.{contextLayout, specificationLayout}
-use Rattle.records.specs.Bytes.{little, numbers}
-use Rattle.records.specs.Records.{rowsOf}
-use Rattle.records.specs.Faults.{headFault, rowFault, rowsFault, fault}
-use Rattle.records.specs.Replies.{success, refusal, unless, _orElse_, faultReply, recordRefusal}
-use Rattle.records.specs.Matching.{skidRefusal, outsideAgree, productFits, outsideRefusal, productRefusal}
+use Rattle.rules.specs.Layouts.{contextLayout, specificationLayout}
+use Rattle.rules.specs.Bytes.{little, numbers}
+use Rattle.rules.specs.Records.{rowsOf}
+use Rattle.rules.specs.Faults.{headFault, rowFault, rowsFault, fault}
+use Rattle.rules.specs.Replies.{success, refusal, unless, _orElse_, faultReply, recordRefusal}
+use Rattle.rules.specs.Matching.{skidRefusal, outsideAgree, productFits, outsideRefusal, productRefusal}
 use Rattle.solver.specs.declared.Answer.the-variants.{Table, TooMany, None}
 use Rattle.solver.specs.Solve.{answerReply, solveRefusal, solveFor, solveBy, solve}
 

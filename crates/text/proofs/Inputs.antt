@@ -3,8 +3,8 @@
 use mathlib.Core.Path.{_≡_, refl}
 use Prim.Native.Nat.{ℕ, _+_, _*_}
 use Rattle.pairs.specs.Scans.{total}
-use Rattle.records.specs.Layouts.{Layout, contextLayout, specificationLayout, controllerLayout}
-use Rattle.records.specs.Records.{headSize, rowSize}
+use Rattle.rules.specs.Layouts.{Layout, contextLayout, specificationLayout, controllerLayout}
+use Rattle.rules.specs.Records.{headSize, rowSize}
 use Rattle.text.specs.Inputs.{solveLimit, fitLimit}
 
 -- the bytes of a record with as many rows as its kind allows

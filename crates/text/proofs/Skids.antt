@@ -2,7 +2,7 @@
 -- Assumes nothing.
 use mathlib.Core.Path.{_≡_, refl}
 use mathlib.Core.List.{[]}
-use Rattle.records.specs.Skids.{skids, failing}
+use Rattle.rules.specs.Skids.{skids, failing}
 use Rattle.text.specs.Skids.{holds}
 
 pub skids-hold : failing holds 0 skids ≡ []

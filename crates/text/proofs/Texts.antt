@@ -5,13 +5,13 @@ use Prim.Native.Nat.{ℕ, _+_}
 use mathlib.Core.List.{List, [], _∷_, _++_}
 use lib.ListN.{replicate}
 use Rattle.pairs.specs.Scans.{allWith, less, total}
-use Rattle.records.specs.Layouts.{contextLayout, specificationLayout}
-use Rattle.records.specs.Bytes.{little, numbers}
-use Rattle.records.specs.Records.{rowsOf}
-use Rattle.records.specs.Faults.{headFault, rowFault, rowsFault, fault}
-use Rattle.records.specs.Replies.{success, refusal, unless, _orElse_, faultReply, recordRefusal}
-use Rattle.records.specs.Matching.{skidRefusal}
-use Rattle.records.specs.Limits.{stateLimit, setNumbers, nextNumbers}
+use Rattle.rules.specs.Layouts.{contextLayout, specificationLayout}
+use Rattle.rules.specs.Bytes.{little, numbers}
+use Rattle.rules.specs.Records.{rowsOf}
+use Rattle.rules.specs.Faults.{headFault, rowFault, rowsFault, fault}
+use Rattle.rules.specs.Replies.{success, refusal, unless, _orElse_, faultReply, recordRefusal}
+use Rattle.rules.specs.Matching.{skidRefusal}
+use Rattle.rules.specs.Limits.{stateLimit, setNumbers, nextNumbers}
 use Rattle.pairs.specs.Lent.{setSize}
 use Rattle.fit.specs.Check.{checkRefusal, check}
 use Rattle.solver.specs.Solve.{solveRefusal, solveFor, solveBy, solve}

@@ -6,7 +6,7 @@ use mathlib.Core.List.{List}
 use lib.Dec.{ltb}
 use lib.ListN.{length, take, drop}
 use Rattle.pairs.specs.Scans.{if_then_else_}
-use Rattle.records.specs.Records.{lengthIn}
+use Rattle.rules.specs.Records.{lengthIn}
 
 -- "More than 28,689 bytes": a mode byte, the longest context and the longest specification
 unfoldable pub solveLimit : ℕ

@@ -6,9 +6,9 @@ use mathlib.Core.List.{List, [], _∷_, _++_, flatMap}
 use lib.Dec.{ltb}
 use lib.ListN.{take}
 use Rattle.pairs.specs.Scans.{if_then_else_}
-use Rattle.records.specs.declared.Reply.{Reply}
-use Rattle.records.specs.Replies.{refuses}
-use Rattle.records.specs.NextTables.{listing}
+use Rattle.rules.specs.declared.Reply.{Reply}
+use Rattle.rules.specs.Replies.{refuses}
+use Rattle.rules.specs.NextTables.{listing}
 
 -- a number in decimal digits, with fuel for more digits than it has
 unfoldable pub decimal : ℕ → ℕ → List ℕ

@@ -5,10 +5,10 @@ use mathlib.Core.List.{List}
 use lib.Dec.{ltb, eqb}
 use lib.ListN.{length, getD, drop, replicate}
 use Rattle.pairs.specs.Scans.{if_then_else_}
-use Rattle.records.specs.Limits.{setNumbers, nextNumbers}
-use Rattle.records.specs.declared.Counts.{Counts}
-use Rattle.records.specs.Counts.{contextCounts}
-use Rattle.records.specs.Replies.{refusal}
+use Rattle.rules.specs.Limits.{setNumbers, nextNumbers}
+use Rattle.rules.specs.declared.Counts.{Counts}
+use Rattle.rules.specs.Counts.{contextCounts}
+use Rattle.rules.specs.Replies.{refusal}
 use Rattle.fit.specs.Check.{check}
 use Rattle.solver.specs.Solve.{SolveOutcome, solve}
 use Rattle.text.specs.Lines.{refusedText, solvedText, checkedText}

@@ -5,18 +5,18 @@ use mathlib.Core.List.{_∷_, _++_, flatMap}
 use Rattle.pairs.specs.Scans.{allWith, all, any, firstPlace, upward, left, find, same, less, total}
 use Rattle.pairs.specs.Sets.{member, join, add, pairLimit}
 use Rattle.pairs.specs.Lent.{filled, setSize, encoded, encodedSets}
-use Rattle.records.specs.Limits.{stateLimit, setNumbers, nextNumbers}
-use Rattle.records.specs.Layouts.{contextLayout, specificationLayout}
-use Rattle.records.specs.Bytes.{little, numbers}
-use Rattle.records.specs.Records.{rowsOf}
-use Rattle.records.specs.Faults.{headFault, rowFault, rowsFault, fault}
-use Rattle.records.specs.Replies.{unless, _orElse_, faultReply, recordRefusal}
-use Rattle.records.specs.NextTables.{tableOf, listing}
-use Rattle.records.specs.Tables.{specificationTable, skidOf, specNext, letters, pairs}
-use Rattle.records.specs.Matching.{skidRefusal, outsideAgree, productFits, outsideRefusal, productRefusal}
-use Rattle.records.specs.Discover.{meet, scan, discover}
-use Rattle.records.specs.Continues.{everyInput, answers, continuesOn, continues}
-use Rattle.records.specs.Skids.{Case, Printing}
+use Rattle.rules.specs.Limits.{stateLimit, setNumbers, nextNumbers}
+use Rattle.rules.specs.Layouts.{contextLayout, specificationLayout}
+use Rattle.rules.specs.Bytes.{little, numbers}
+use Rattle.rules.specs.Records.{rowsOf}
+use Rattle.rules.specs.Faults.{headFault, rowFault, rowsFault, fault}
+use Rattle.rules.specs.Replies.{unless, _orElse_, faultReply, recordRefusal}
+use Rattle.rules.specs.NextTables.{tableOf, listing}
+use Rattle.rules.specs.Tables.{specificationTable, skidOf, specNext, letters, pairs}
+use Rattle.rules.specs.Matching.{skidRefusal, outsideAgree, productFits, outsideRefusal, productRefusal}
+use Rattle.rules.specs.Discover.{meet, scan, discover}
+use Rattle.rules.specs.Continues.{everyInput, answers, continuesOn, continues}
+use Rattle.rules.specs.Skids.{Case, Printing}
 use Rattle.fit.specs.Skids.{checks}
 use Rattle.solver.specs.Plain.{reached, byRow, byPair, after, startSet, plain}
 use Rattle.solver.specs.Rounds.{round, deletion, lasting}

@@ -1,0 +1,17 @@
+pub mod Limits
+pub mod Layouts
+pub mod Bytes
+pub mod Records
+pub mod Counts
+pub mod Faults
+pub mod Replies
+pub mod NextTables
+pub mod Tables
+pub mod ContextRows
+pub mod Matching
+pub mod Discover
+pub mod Continues
+pub mod Reading
+pub mod Writing
+pub mod Meaning
+pub mod Skids
