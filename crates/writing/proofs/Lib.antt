@@ -1,0 +1,3 @@
+pub mod SurveyLaws
+pub mod PutLaws
+pub mod WriteLaws
