@@ -19,10 +19,10 @@ use Rattle.pairs.specs.Sets.{pairPlace, contextOf, specificationOf}
 use Rattle.pairs.proofs.Scans.{imp-yes, all-yes, any-yes, yes-any}
 use Rattle.pairs.proofs.Sets.{pair-context, pair-specification}
 use Rattle.pairs.proofs.Lists.{left-mem, mem-left}
-use Rattle.records.specs.Tables.{Skid, rowState, rowI, rowNext, rowLetter, nextAt}
-use Rattle.records.specs.Continues.{continuesOn, continues}
-use Rattle.records.specs.Meaning.{NextTable, Legal, system, tableStep}
-use Rattle.records.proofs.Rows.{has-there, action, row-context}
+use Rattle.rules.specs.Tables.{Skid, rowState, rowI, rowNext, rowLetter, nextAt}
+use Rattle.rules.specs.Continues.{continuesOn, continues}
+use Rattle.rules.specs.Meaning.{NextTable, Legal, system, tableStep}
+use Rattle.rules.proofs.Rows.{has-there, action, row-context}
 use Rattle.fit.specs.Triples.{has, triples}
 use Rattle.fit.specs.Verdict.{blocks}
 use Rattle.fit.proofs.Sweep.{Held}

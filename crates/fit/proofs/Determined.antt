@@ -4,10 +4,12 @@ use mathlib.Core.Path.{_≡_}
 use mathlib.Core.List.{List}
 use Prim.Native.Nat.{ℕ}
 use Rattle.pairs.proofs.Determined.{determined}
-use Rattle.records.specs.declared.Reply.{Reply}
+use Rattle.rules.specs.declared.Reply.{Reply}
 use Rattle.fit.specs.declared.Verdict.{Verdict}
+use Rattle.fit.specs.declared.Controller.{Controller}
 use Rattle.fit.specs.Verdict.{Replied}
 use Rattle.fit.specs.Check.{Checked}
+use Rattle.fit.specs.Panel.{ContextReplied, SpecificationReplied, ControllerReplied}
 
 pub replied-determined : (states : ℕ) (v : Verdict) (r s : Reply) → Replied states v r → Replied states v s → r ≡ s
 replied-determined states v r s = determined
@@ -15,3 +17,14 @@ replied-determined states v r s = determined
 pub checked-determined : (context specification controller sets : List ℕ) (r s : Reply) (a b : List ℕ)
     → Checked context specification controller sets r a → Checked context specification controller sets s b → (r ≡ s) × (a ≡ b)
 checked-determined context specification controller sets r s a b x y = (determined (x .reply-is) (y .reply-is), determined (x .sets-are) (y .sets-are))
+
+-- the panel's entries for reading; the one for writing has the predicate of crate `rules`, with `written-determined`
+pub context-replied-determined : (b : List ℕ) (r s : Reply) → ContextReplied b r → ContextReplied b s → r ≡ s
+context-replied-determined b r s = determined
+
+pub specification-replied-determined : (b : List ℕ) (r s : Reply) → SpecificationReplied b r → SpecificationReplied b s → r ≡ s
+specification-replied-determined b r s = determined
+
+pub controller-replied-determined : (b next : List ℕ) (r s : Controller) (n m : List ℕ)
+    → ControllerReplied b next r n → ControllerReplied b next s m → (r ≡ s) × (n ≡ m)
+controller-replied-determined b next r s n m x y = (determined (x .reply-is) (y .reply-is), determined (x .next-is) (y .next-is))

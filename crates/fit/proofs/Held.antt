@@ -12,9 +12,9 @@ use Rattle.pairs.specs.Scans.{if_then_else_, any, left}
 use Rattle.pairs.specs.Sets.{member, pairPlace, contextOf, specificationOf}
 use Rattle.pairs.proofs.Scans.{both-yes, yes-both, any-yes, yes-any}
 use Rattle.pairs.proofs.Lists.{left-mem, mem-left}
-use Rattle.records.specs.Tables.{Skid, pairs}
-use Rattle.records.specs.Meaning.{Legal}
-use Rattle.records.proofs.Places.{pair-listed, at-pair}
+use Rattle.rules.specs.Tables.{Skid, pairs}
+use Rattle.rules.specs.Meaning.{Legal}
+use Rattle.rules.proofs.Places.{pair-listed, at-pair}
 use Rattle.fit.specs.Verdict.{anyTriple}
 use Rattle.fit.proofs.Sweep.{Held}
 

@@ -14,10 +14,10 @@ use Rattle.pairs.specs.Scans.{if_then_else_, any}
 use Rattle.pairs.specs.Sets.{pairPlace}
 use Rattle.pairs.proofs.Scans.{both-yes, yes-both, any-yes, yes-any}
 use Rattle.pairs.proofs.Sets.{pair-context, pair-specification}
-use Rattle.records.specs.NextTables.{isPresent}
-use Rattle.records.specs.Tables.{Skid, rowI, rowO, rowNext, specNext, rowSpecNext}
-use Rattle.records.specs.Meaning.{NextTable, Legal, system, tableStep}
-use Rattle.records.proofs.Rows.{action}
+use Rattle.rules.specs.NextTables.{isPresent}
+use Rattle.rules.specs.Tables.{Skid, rowI, rowO, rowNext, specNext, rowSpecNext}
+use Rattle.rules.specs.Meaning.{NextTable, Legal, system, tableStep}
+use Rattle.rules.proofs.Rows.{action}
 use Rattle.fit.specs.Triples.{jointRow, triples}
 use Rattle.fit.specs.Verdict.{leaves}
 use Rattle.fit.proofs.Sweep.{Held}

@@ -10,3 +10,4 @@ pub mod Blocks
 pub mod Order
 pub mod Skids
 pub mod Determined
+pub mod EntryLaws

@@ -6,14 +6,14 @@ use mathlib.Core.List.{List, [], _∷_}
 use lib.ListN.{replicate}
 use Rattle.pairs.specs.Scans.{allWith, less, total}
 use Rattle.pairs.specs.Sets.{pairLimit}
-use Rattle.records.specs.Limits.{stateLimit, setNumbers}
+use Rattle.rules.specs.Limits.{stateLimit, setNumbers}
 use Rattle.pairs.specs.Lent.{setSize}
-use Rattle.records.specs.Layouts.{contextLayout, specificationLayout, controllerLayout}
-use Rattle.records.specs.Bytes.{little, numbers}
-use Rattle.records.specs.Records.{rowsOf}
-use Rattle.records.specs.Faults.{headFault, rowFault, rowsFault, fault}
-use Rattle.records.specs.Replies.{refusal, unless, _orElse_, faultReply, recordRefusal}
-use Rattle.records.specs.Matching.{skidRefusal, outsideAgree, lettersAgree, productFits, outsideRefusal, lettersRefusal, productRefusal}
+use Rattle.rules.specs.Layouts.{contextLayout, specificationLayout, controllerLayout}
+use Rattle.rules.specs.Bytes.{little, numbers}
+use Rattle.rules.specs.Records.{rowsOf}
+use Rattle.rules.specs.Faults.{headFault, rowFault, rowsFault, fault}
+use Rattle.rules.specs.Replies.{refusal, unless, _orElse_, faultReply, recordRefusal}
+use Rattle.rules.specs.Matching.{skidRefusal, outsideAgree, lettersAgree, productFits, outsideRefusal, lettersRefusal, productRefusal}
 use Rattle.fit.specs.Check.{checkRefusal, check}
 
 -- I=O=U=V=1. "States 8 and 8 pass, 5 and 13 give 9."

@@ -2,7 +2,7 @@
 -- Assumes nothing.
 use mathlib.Core.Path.{_≡_, sym, ap, _∙_}
 use Prim.Native.Nat.{ℕ}
-use Rattle.records.specs.declared.Reply.{Reply}
+use Rattle.rules.specs.declared.Reply.{Reply}
 use Rattle.fit.specs.declared.Verdict.{Verdict}
 use Rattle.fit.specs.Verdict.{verdictReply}
 

@@ -3,7 +3,7 @@
 use mathlib.Core.Path.{_≡_, refl}
 use mathlib.Core.List.{[]}
 use Rattle.pairs.specs.Scans.{all}
-use Rattle.records.specs.Skids.{skids, failing}
+use Rattle.rules.specs.Skids.{skids, failing}
 use Rattle.fit.specs.Skids.{checks}
 
 pub skids-checked : failing (λ c. all (checks c) (c .checking)) 0 skids ≡ []

@@ -20,9 +20,9 @@ use Rattle.words.proofs.Words.{is-some, first-step, run-cons}
 use Rattle.words.proofs.Fit.{triple-last}
 use Rattle.pairs.specs.Sets.{member, add, empty, pairPlace}
 use Rattle.pairs.proofs.Sets.{empty-set}
-use Rattle.records.specs.Tables.{Skid}
-use Rattle.records.specs.Meaning.{NextTable, Legal, system, InSet, tableStep}
-use Rattle.records.proofs.Places.{start-pair}
+use Rattle.rules.specs.Tables.{Skid}
+use Rattle.rules.specs.Meaning.{NextTable, Legal, system, InSet, tableStep}
+use Rattle.rules.proofs.Places.{start-pair}
 use Rattle.fit.specs.Triples.{sweep, startSets}
 use Rattle.fit.proofs.Sweep.{Held, Further, sweep-law, sweep-length}
 

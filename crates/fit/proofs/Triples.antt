@@ -15,9 +15,9 @@ use Rattle.pairs.proofs.Scans.{with-equal}
 use Rattle.pairs.specs.Sets.{member, pairPlace}
 use Rattle.pairs.proofs.Lists.{length-left, part-below, left-mem}
 use Rattle.pairs.proofs.Sets.{pair-context, pair-specification}
-use Rattle.records.specs.Tables.{Skid}
-use Rattle.records.specs.Meaning.{NextTable, Legal}
-use Rattle.records.specs.Continues.{everyInput}
+use Rattle.rules.specs.Tables.{Skid}
+use Rattle.rules.specs.Meaning.{NextTable, Legal}
+use Rattle.rules.specs.Continues.{everyInput}
 use Rattle.fit.specs.Triples.{sweep, grown, startSets, triples}
 use Rattle.fit.proofs.Sweep.{Held, Further, sweep-adds, sweep-law, sweep-length, sweep-fixed}
 use Rattle.fit.proofs.Swept.{swept, swept-length, swept-reached, swept-start, Reached, along}

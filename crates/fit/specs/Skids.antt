@@ -8,19 +8,19 @@ use lib.ListN.{length, replicate}
 use Rattle.pairs.specs.Scans.{allWith, all, any, firstPlace, upward, left, find, same, less, total}
 use Rattle.pairs.specs.Sets.{member, join, add, pairLimit}
 use Rattle.pairs.specs.Lent.{filled, setSize, encoded, encodedSets}
-use Rattle.records.specs.declared.Reply.{Reply}
-use Rattle.records.specs.Limits.{stateLimit, setNumbers}
-use Rattle.records.specs.Layouts.{contextLayout, specificationLayout, controllerLayout}
-use Rattle.records.specs.Bytes.{little, numbers}
-use Rattle.records.specs.Records.{rowsOf}
-use Rattle.records.specs.Faults.{headFault, rowFault, rowsFault, fault}
-use Rattle.records.specs.Replies.{unless, _orElse_, faultReply, recordRefusal}
-use Rattle.records.specs.NextTables.{tableOf}
-use Rattle.records.specs.Tables.{specificationTable, skidOf, specNext, letters, controllerTable, pairs}
-use Rattle.records.specs.Matching.{skidRefusal, outsideAgree, lettersAgree, productFits, outsideRefusal, lettersRefusal, productRefusal}
-use Rattle.records.specs.Discover.{meet, scan, discover}
-use Rattle.records.specs.Continues.{everyInput, answers, continuesOn, continues}
-use Rattle.records.specs.Skids.{Case, Checking}
+use Rattle.rules.specs.declared.Reply.{Reply}
+use Rattle.rules.specs.Limits.{stateLimit, setNumbers}
+use Rattle.rules.specs.Layouts.{contextLayout, specificationLayout, controllerLayout}
+use Rattle.rules.specs.Bytes.{little, numbers}
+use Rattle.rules.specs.Records.{rowsOf}
+use Rattle.rules.specs.Faults.{headFault, rowFault, rowsFault, fault}
+use Rattle.rules.specs.Replies.{unless, _orElse_, faultReply, recordRefusal}
+use Rattle.rules.specs.NextTables.{tableOf}
+use Rattle.rules.specs.Tables.{specificationTable, skidOf, specNext, letters, controllerTable, pairs}
+use Rattle.rules.specs.Matching.{skidRefusal, outsideAgree, lettersAgree, productFits, outsideRefusal, lettersRefusal, productRefusal}
+use Rattle.rules.specs.Discover.{meet, scan, discover}
+use Rattle.rules.specs.Continues.{everyInput, answers, continuesOn, continues}
+use Rattle.rules.specs.Skids.{Case, Checking}
 use Rattle.fit.specs.Triples.{withTriple, further, visit, sweep, grown, startSets, triples}
 use Rattle.fit.specs.Verdict.{ownStates, incomplete, leaves, blocks, verdict}
 use Rattle.fit.specs.Check.{CheckOutcome, checkRefusal, setsNamed, judge, check}

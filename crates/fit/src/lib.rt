@@ -1,6 +1,8 @@
-// The fit check of a controller table against context and specification.
+// The fit check of a controller table against context and specification, and all that the panel takes.
+pub mod panel; // the entries for C
+
 ghost use Rattle.fit.specs.Verdict.{Replied};
-use records::Reply;
+use rules::Reply;
 
 // What the check finds of a table that was read, in the order in which it is asked.
 pub enum Verdict {
@@ -10,14 +12,26 @@ pub enum Verdict {
     Fits,
 }
 
+// The reply to reading a controller, and its U and V. For C: seven numbers of 32 bits.
+#[repr(C)]
+pub struct Controller {
+    pub number: u32,
+    pub record: u32,
+    pub row: u32,
+    pub states: u32,
+    pub rounds: u32,
+    pub u: u32,
+    pub v: u32,
+}
+
 // The reply that a verdict on a controller of so many states gives.
 pub fn verdict_reply(verdict: Verdict, states: u32) -> Reply
     ensures { λ r. ⌜ Replied states verdict r ⌝ }
 {
     match verdict {
-        Verdict::Incomplete => records::refused(14, 0),
-        Verdict::Leaves => records::refused(15, 0),
-        Verdict::Blocks => records::refused(16, 0),
+        Verdict::Incomplete => rules::refused(14, 0),
+        Verdict::Leaves => rules::refused(15, 0),
+        Verdict::Blocks => rules::refused(16, 0),
         Verdict::Fits => Reply {
             number: 0,
             record: 0,
