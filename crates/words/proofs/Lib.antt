@@ -7,5 +7,6 @@ pub mod Rounds
 pub mod Renamed
 pub mod Answer
 pub mod Fit
+pub mod Faulty
 pub mod Codes
 pub mod Examples

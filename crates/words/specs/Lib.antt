@@ -4,4 +4,5 @@ pub mod Sets
 pub mod Deletion
 pub mod Renamed
 pub mod Fit
+pub mod Faulty
 pub mod Codes
