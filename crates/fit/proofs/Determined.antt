@@ -5,18 +5,8 @@ use mathlib.Core.List.{List}
 use Prim.Native.Nat.{ℕ}
 use Rattle.pairs.proofs.Determined.{determined}
 use Rattle.rules.specs.declared.Reply.{Reply}
-use Rattle.fit.specs.declared.Verdict.{Verdict}
 use Rattle.fit.specs.declared.Controller.{Controller}
-use Rattle.fit.specs.Verdict.{Replied}
-use Rattle.fit.specs.Check.{Checked}
 use Rattle.fit.specs.Panel.{ContextReplied, SpecificationReplied, ControllerReplied}
-
-pub replied-determined : (states : ℕ) (v : Verdict) (r s : Reply) → Replied states v r → Replied states v s → r ≡ s
-replied-determined states v r s = determined
-
-pub checked-determined : (context specification controller sets : List ℕ) (r s : Reply) (a b : List ℕ)
-    → Checked context specification controller sets r a → Checked context specification controller sets s b → (r ≡ s) × (a ≡ b)
-checked-determined context specification controller sets r s a b x y = (determined (x .reply-is) (y .reply-is), determined (x .sets-are) (y .sets-are))
 
 -- the panel's entries for reading; the one for writing has the predicate of crate `rules`, with `written-determined`
 pub context-replied-determined : (b : List ℕ) (r s : Reply) → ContextReplied b r → ContextReplied b s → r ≡ s

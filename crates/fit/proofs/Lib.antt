@@ -1,13 +1,3 @@
 pub mod Replied
-pub mod Adds
-pub mod Rows
-pub mod Sweep
-pub mod Swept
-pub mod Triples
-pub mod Held
-pub mod Leaves
-pub mod Blocks
-pub mod Order
-pub mod Skids
 pub mod Determined
 pub mod EntryLaws

@@ -3,8 +3,8 @@
 use mathlib.Core.Path.{_≡_, sym, ap, _∙_}
 use Prim.Native.Nat.{ℕ}
 use Rattle.rules.specs.declared.Reply.{Reply}
-use Rattle.fit.specs.declared.Verdict.{Verdict}
-use Rattle.fit.specs.Verdict.{verdictReply}
+use Rattle.verdicts.specs.declared.Verdict.{Verdict}
+use Rattle.verdicts.specs.Verdict.{verdictReply}
 
 pub replied : (states : ℕ) (v w : Verdict) (r : Reply) → v ≡ w → r ≡ verdictReply states w → r ≡ verdictReply states v
 replied states v w r e h = h ∙ ap (verdictReply states) (sym e)

@@ -1,5 +1,1 @@
-pub mod Triples
-pub mod Verdict
-pub mod Check
-pub mod Skids
 pub mod Panel

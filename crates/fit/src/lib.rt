@@ -1,16 +1,9 @@
 // The fit check of a controller table against context and specification, and all that the panel takes.
 pub mod panel; // the entries for C
 
-ghost use Rattle.fit.specs.Verdict.{Replied};
+ghost use Rattle.verdicts.specs.Verdict.{Replied};
 use rules::Reply;
-
-// What the check finds of a table that was read, in the order in which it is asked.
-pub enum Verdict {
-    Incomplete,
-    Leaves,
-    Blocks,
-    Fits,
-}
+use verdicts::Verdict;
 
 // The reply to reading a controller, and its U and V. For C: seven numbers of 32 bits.
 #[repr(C)]
@@ -32,12 +25,6 @@ pub fn verdict_reply(verdict: Verdict, states: u32) -> Reply
         Verdict::Incomplete => rules::refused(14, 0),
         Verdict::Leaves => rules::refused(15, 0),
         Verdict::Blocks => rules::refused(16, 0),
-        Verdict::Fits => Reply {
-            number: 0,
-            record: 0,
-            row: 0,
-            states: states,
-            rounds: 0,
-        },
+        Verdict::Fits => rules::succeeded(states, 0),
     }
 }

@@ -8,6 +8,7 @@ pub mod Rows
 pub mod Legal
 pub mod RowsOfState
 pub mod Places
+pub mod Letters
 pub mod Read
 pub mod Numbering
 pub mod Discover

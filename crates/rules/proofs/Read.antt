@@ -91,7 +91,7 @@ module _ (l : Layout) (fields : length (l .fieldSizes) ≡ 4) (below : l .below 
       leads = table-leads m n states (rowsIn l b) (step-rows few) s x y j (rw em at hx) (rw en at hy)
 
 -- two counts that agree, and two more
-agreeing : (a b c d : ℕ) → (eqb a b && eqb c d) ≡ true → (a ≡ b) × (c ≡ d)
+pub agreeing : (a b c d : ℕ) → (eqb a b && eqb c d) ≡ true → (a ≡ b) × (c ≡ d)
 agreeing a b c d e = let (t, t′) = and-yes (eqb a b) (eqb c d) (subst T (sym e) tt) in (eqb→eq a b t, eqb→eq c d t′)
 
 -- where I and O agree: the specification goes from c by i and o to c′ exactly if its record has the row

@@ -8,6 +8,7 @@ use mathlib.Core.List.{List, List·Memᴰ}
 use Prim.Native.Nat.{ℕ, _≤_, _<_}
 use lib.Dec.{T}
 use lib.ListN.{getD}
+use Rattle.words.specs.Words.{Runs, Words}
 use Rattle.words.specs.System.{System, Letter}
 use Rattle.words.specs.Codes.{Below}
 use Rattle.pairs.specs.Sets.{member, pairPlace}
@@ -76,6 +77,10 @@ module _ (k : Skid) (asked : ℕ → ℕ → Bool) where
   -- where a next table leads from the state q on a letter
   abbrev pub tableStep : List ℕ → ℕ → Letter system → Option ℕ
   tableStep next q l = there (nextAt k next q (letterOf l))
+
+  -- the controller words that a next table can run from "start state 0"
+  abbrev pub TableWords : List ℕ → Words (Letter system)
+  TableWords next = Runs (tableStep next) 0
 
 -- the pair (a, c) is in the set
 abbrev pub InSet : Skid → ℕ → ℕ → ℕ → Type 0

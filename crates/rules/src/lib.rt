@@ -15,6 +15,9 @@ pub const STATE_LIMIT: u16 = 512;
 
 pub const NEXT_NUMBERS: usize = 8192;
 
+// The lent numbers of 64 bits hold the sets of so many states.
+pub const SET_NUMBERS: usize = 512;
+
 pub const ABSENT: u16 = 65535;
 
 // Every reply of the product. For C: five numbers of 32 bits.

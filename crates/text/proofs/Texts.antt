@@ -13,7 +13,7 @@ use Rattle.rules.specs.Replies.{success, refusal, unless, _orElse_, faultReply,
 use Rattle.rules.specs.Matching.{skidRefusal}
 use Rattle.rules.specs.Limits.{stateLimit, setNumbers, nextNumbers}
 use Rattle.pairs.specs.Lent.{setSize}
-use Rattle.fit.specs.Check.{checkRefusal, check}
+use Rattle.verdicts.specs.Check.{checkRefusal, check}
 use Rattle.solver.specs.Solve.{solveRefusal, solveFor, solveBy, solve}
 use Rattle.text.specs.Lines.{decimal, digits, line, statesWord, roundsWord, refusedWord, recordWord, rowWord, fitsWord, refusedText, solvedText, checkedText}
 use Rattle.text.specs.Inputs.{solveLimit, fitLimit, recordEnd, firstRecord, behind}

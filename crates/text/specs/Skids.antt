@@ -17,7 +17,7 @@ use Rattle.rules.specs.Matching.{skidRefusal, outsideAgree, productFits, outsid
 use Rattle.rules.specs.Discover.{meet, scan, discover}
 use Rattle.rules.specs.Continues.{everyInput, answers, continuesOn, continues}
 use Rattle.rules.specs.Skids.{Case, Printing}
-use Rattle.fit.specs.Skids.{checks}
+use Rattle.verdicts.specs.Skids.{checks}
 use Rattle.solver.specs.Plain.{reached, byRow, byPair, after, startSet, plain}
 use Rattle.solver.specs.Rounds.{round, deletion, lasting}
 use Rattle.solver.specs.Unblocked.{setsOf, passes, unblocked, afresh}

@@ -26,6 +26,9 @@ refused-requires-3 c κs = search needs
 enum-told-4 : tie.Need-enum-told-4
 enum-told-4 c = search needs
 
+succeeded-requires : tie.Need-succeeded-requires
+succeeded-requires c κs = search needs
+
 returns : tie.Need-returns
 returns c = search replied
 
@@ -49,6 +52,7 @@ verdict-reply-spec =
     enum-told-3
     refused-requires-3
     enum-told-4
+    succeeded-requires
     returns
     returns-2
     returns-3

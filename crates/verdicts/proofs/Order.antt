@@ -14,7 +14,7 @@ use Rattle.rules.specs.Records.{rowsOf}
 use Rattle.rules.specs.Faults.{headFault, rowFault, rowsFault, fault}
 use Rattle.rules.specs.Replies.{refusal, unless, _orElse_, faultReply, recordRefusal}
 use Rattle.rules.specs.Matching.{skidRefusal, outsideAgree, lettersAgree, productFits, outsideRefusal, lettersRefusal, productRefusal}
-use Rattle.fit.specs.Check.{checkRefusal, check}
+use Rattle.verdicts.specs.Check.{checkRefusal, check}
 
 -- I=O=U=V=1. "States 8 and 8 pass, 5 and 13 give 9."
 abbrev context : ℕ → List ℕ

@@ -4,7 +4,7 @@ use mathlib.Core.Path.{_≡_, refl}
 use mathlib.Core.List.{[]}
 use Rattle.pairs.specs.Scans.{all}
 use Rattle.rules.specs.Skids.{skids, failing}
-use Rattle.fit.specs.Skids.{checks}
+use Rattle.verdicts.specs.Skids.{checks}
 
 pub skids-checked : failing (λ c. all (checks c) (c .checking)) 0 skids ≡ []
 unfolding failing skids all checks

@@ -21,9 +21,9 @@ use Rattle.rules.specs.Matching.{skidRefusal, outsideAgree, lettersAgree, produ
 use Rattle.rules.specs.Discover.{meet, scan, discover}
 use Rattle.rules.specs.Continues.{everyInput, answers, continuesOn, continues}
 use Rattle.rules.specs.Skids.{Case, Checking}
-use Rattle.fit.specs.Triples.{withTriple, further, visit, sweep, grown, startSets, triples}
-use Rattle.fit.specs.Verdict.{ownStates, incomplete, leaves, blocks, verdict}
-use Rattle.fit.specs.Check.{CheckOutcome, checkRefusal, setsNamed, judge, check}
+use Rattle.verdicts.specs.Triples.{withTriple, further, visit, sweep, grown, startSets, triples}
+use Rattle.verdicts.specs.Verdict.{ownStates, incomplete, leaves, blocks, verdict}
+use Rattle.verdicts.specs.Check.{CheckOutcome, checkRefusal, setsNamed, judge, check}
 
 unfoldable pub checks : Case → Checking → Bool
 unfolding all any firstPlace upward left find less total member join add pairLimit filled setSize encoded encodedSets flatMap stateLimit setNumbers contextLayout specificationLayout controllerLayout little numbers rowsOf headFault rowFault rowsFault fault unless _orElse_ faultReply recordRefusal tableOf specificationTable skidOf specNext letters controllerTable pairs skidRefusal outsideAgree lettersAgree productFits outsideRefusal lettersRefusal productRefusal meet scan discover everyInput answers continuesOn continues withTriple further visit sweep grown startSets triples ownStates incomplete leaves blocks verdict checkRefusal setsNamed judge check allWith

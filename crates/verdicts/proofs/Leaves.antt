@@ -10,6 +10,7 @@ use lib.Dec.{T}
 use Rattle.words.specs.System.{letter}
 use Rattle.words.specs.Fit.{Stays}
 use Rattle.words.proofs.Words.{known, is-some, not-both, dec-some}
+use Rattle.words.proofs.Faulty.{Leaving}
 use Rattle.pairs.specs.Scans.{if_then_else_, any}
 use Rattle.pairs.specs.Sets.{pairPlace}
 use Rattle.pairs.proofs.Scans.{both-yes, yes-both, any-yes, yes-any}
@@ -18,12 +19,12 @@ use Rattle.rules.specs.NextTables.{isPresent}
 use Rattle.rules.specs.Tables.{Skid, rowI, rowO, rowNext, specNext, rowSpecNext}
 use Rattle.rules.specs.Meaning.{NextTable, Legal, system, tableStep}
 use Rattle.rules.proofs.Rows.{action}
-use Rattle.fit.specs.Triples.{jointRow, triples}
-use Rattle.fit.specs.Verdict.{leaves}
-use Rattle.fit.proofs.Sweep.{Held}
-use Rattle.fit.proofs.Rows.{row-joint, joint-row}
-use Rattle.fit.proofs.Held.{any-triple}
-use Rattle.fit.proofs.Triples.{triples-exactly}
+use Rattle.verdicts.specs.Triples.{jointRow, triples}
+use Rattle.verdicts.specs.Verdict.{leaves}
+use Rattle.verdicts.proofs.Sweep.{Held}
+use Rattle.verdicts.proofs.Rows.{row-joint, joint-row}
+use Rattle.verdicts.proofs.Held.{any-triple}
+use Rattle.verdicts.proofs.Triples.{triples-exactly}
 
 none-yes : (o : Option ℕ) → T (not (isPresent o)) ↔ (o ≡ none)
 none-yes none = (λ t. refl, λ e. tt)
@@ -34,21 +35,10 @@ no-some none h = refl
 no-some (some x) h = absurd (h tt)
 
 module _ (k : Skid) (asked : ℕ → ℕ → Bool) (states : ℕ) (next : List ℕ) where
-  -- from a triple of P a joint step has no specification row
-  pub record Leaving (P : ℕ → ℕ → ℕ → Type 0) : Type 0 where
-    pub a : ℕ
-    pub c : ℕ
-    pub d : ℕ
-    pub x : system k asked .Step
-    pub from : P a c d
-    pub context : IsSome (system k asked .ctx a x)
-    pub controller : IsSome (tableStep k asked next d (letter (system k asked) x))
-    pub no-row : system k asked .spc c (system k asked .outside x) ≡ none
-
   abbrev lacks : ℕ → ℕ → List ℕ → Bool
   lacks s p r = if jointRow k next s p r then not (isPresent (rowSpecNext k p r)) else false
 
-  pub leaves-law : Legal k → (sets : List ℕ) → T (leaves k states next sets) ↔ Leaving (Held k states sets)
+  pub leaves-law : Legal k → (sets : List ℕ) → T (leaves k states next sets) ↔ Leaving (system k asked) (tableStep k asked next) (Held k states sets)
   unfolding leaves
   leaves-law legal sets = (
     λ t. let (a, c, d, h, t₁) = any-triple k legal states next sets (λ s p. any (lacks s p) (k .context)) .0 t in

@@ -15,8 +15,8 @@ use Rattle.pairs.proofs.Lists.{left-mem, mem-left}
 use Rattle.rules.specs.Tables.{Skid, pairs}
 use Rattle.rules.specs.Meaning.{Legal}
 use Rattle.rules.proofs.Places.{pair-listed, at-pair}
-use Rattle.fit.specs.Verdict.{anyTriple}
-use Rattle.fit.proofs.Sweep.{Held}
+use Rattle.verdicts.specs.Verdict.{anyTriple}
+use Rattle.verdicts.proofs.Sweep.{Held}
 
 module _ (k : Skid) (legal : Legal k) (states : ℕ) (next sets : List ℕ) (test : ℕ → ℕ → Bool) where
   abbrev ofPair : ℕ → ℕ → Bool

@@ -18,9 +18,9 @@ use Rattle.pairs.proofs.Sets.{pair-context, pair-specification}
 use Rattle.rules.specs.Tables.{Skid}
 use Rattle.rules.specs.Meaning.{NextTable, Legal}
 use Rattle.rules.specs.Continues.{everyInput}
-use Rattle.fit.specs.Triples.{sweep, grown, startSets, triples}
-use Rattle.fit.proofs.Sweep.{Held, Further, sweep-adds, sweep-law, sweep-length, sweep-fixed}
-use Rattle.fit.proofs.Swept.{swept, swept-length, swept-reached, swept-start, Reached, along}
+use Rattle.verdicts.specs.Triples.{sweep, grown, startSets, triples}
+use Rattle.verdicts.proofs.Sweep.{Held, Further, sweep-adds, sweep-law, sweep-length, sweep-fixed}
+use Rattle.verdicts.proofs.Swept.{swept, swept-length, swept-pairs, swept-reached, swept-start, Reached, along}
 
 further-map : {k : Skid} {asked : ℕ → ℕ → Bool} {next : List ℕ} {P Q : ℕ → ℕ → ℕ → Type 0} {a c d : ℕ} → ((a c d : ℕ) → P a c d → Q a c d) → Further k asked next P a c d → Further k asked next Q a c d
 further-map h f = record { a = f .a; c = f .c; d = f .d; x = f .x; from = h (f .a) (f .c) (f .d) (f .from); context = f .context; specification = f .specification; controller = f .controller }
@@ -149,8 +149,11 @@ module _ (k : Skid) (asked : ℕ → ℕ → Bool) (legal : Legal k) (states : �
   unfolding triples
   triples-swept = grown-swept k states next _ 0
 
-  triples-length : length (triples k states next) ≡ states
+  pub triples-length : length (triples k states next) ≡ states
   triples-length = let (n, e) = triples-swept in ap length e ∙ swept-length k asked legal states next table n
+
+  pub triples-pairs : (d q : ℕ) → T (member q (getD (triples k states next) d 0)) → q < k .nA * k .nC
+  triples-pairs d q m = let (n, e) = triples-swept in swept-pairs k asked legal states next table n d q (subst (λ sets. T (member q (getD sets d 0))) e m)
 
   triples-further : (a c d : ℕ) → Further k asked next (In (triples k states next)) a c d → In (triples k states next) a c d
   triples-further a c d f = triples-settled a c d (sweepLaw (triples k states next) triples-length a c d .1 (inr f))

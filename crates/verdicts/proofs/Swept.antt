@@ -6,7 +6,7 @@ use mathlib.Core.Logic.{_↔_, _⊎_, inl, inr, ⊎-elim}
 use mathlib.Core.Bool.{Bool}
 use mathlib.Core.Option.{some, Option·some-injective}
 use mathlib.Core.List.{List, [], _∷_}
-use Prim.Native.Nat.{ℕ, zero, suc, _+_, _≤_}
+use Prim.Native.Nat.{ℕ, zero, suc, _+_, _*_, _≤_, _<_}
 use native.Mathlib.Nat.{eq-or-lt-of-le, zero-add}
 use native.Mathlib.Decide.{ℕ-discrete}
 use native.Mathlib.Omega.{arith}
@@ -19,12 +19,15 @@ use Rattle.words.specs.Fit.{Triple}
 use Rattle.words.proofs.Words.{is-some, first-step, run-cons}
 use Rattle.words.proofs.Fit.{triple-last}
 use Rattle.pairs.specs.Sets.{member, add, empty, pairPlace}
+use Rattle.pairs.proofs.Lists.{part-below}
 use Rattle.pairs.proofs.Sets.{empty-set}
 use Rattle.rules.specs.Tables.{Skid}
 use Rattle.rules.specs.Meaning.{NextTable, Legal, system, InSet, tableStep}
+use Rattle.rules.proofs.NextTables.{getD-replicate-same}
 use Rattle.rules.proofs.Places.{start-pair}
-use Rattle.fit.specs.Triples.{sweep, startSets}
-use Rattle.fit.proofs.Sweep.{Held, Further, sweep-law, sweep-length}
+use Rattle.verdicts.specs.Triples.{sweep, startSets}
+use Rattle.verdicts.proofs.Adds.{Has, adds-one}
+use Rattle.verdicts.proofs.Sweep.{Held, Further, sweep-adds, added-pair, sweep-law, sweep-length}
 
 -- n sweeps from the start
 module _ (k : Skid) (states : ℕ) (next : List ℕ) where
@@ -85,6 +88,16 @@ module _ (k : Skid) (asked : ℕ → ℕ → Bool) (legal : Legal k) (states : �
   unfolding startSets
   swept-length zero = length-set (replicate states empty) 0 (add (pairPlace (k .nC) 0 0) empty) ∙ length-replicate states 0
   swept-length (suc n) = sweep-length k asked legal states next table (swept k states next n) (swept-length n)
+
+  -- the sets hold places of pairs and no others
+  pub swept-pairs : (n d q : ℕ) → Has (swept k states next n) d q → q < k .nA * k .nC
+  unfolding startSets
+  swept-pairs zero d q m = ⊎-elim
+      (λ h. absurd (empty-set q (subst (λ s. T (member q s)) (getD-replicate-same states d 0) h)))
+      (λ h. subst (λ q. q < k .nA * k .nC) (sym (h .1)) (part-below (k .nC) (k .nA) 0 0 (legal .context-start) (legal .specification-table .occupied)))
+      (adds-one (replicate states empty) 0 (pairPlace (k .nC) 0 0) (rw length-replicate (table .occupied)) .1 d q .0 (subst (λ s. T (member q (getD (set (replicate states empty) 0 (add (pairPlace (k .nC) 0 0) s)) d 0))) (sym (getD-replicate-same states 0 0)) m))
+  swept-pairs (suc n) d q m = ⊎-elim (swept-pairs n d q) (added-pair k asked legal states next table (swept k states next n) d q)
+      (sweep-adds k asked legal states next table (swept k states next n) (swept-length n) .1 d q .0 m)
 
   -- one sweep more
   swept-law : (n a c d : ℕ) → Held k states (swept k states next (suc n)) a c d ↔ (Held k states (swept k states next n) a c d ⊎ Further k asked next (Held k states (swept k states next n)) a c d)

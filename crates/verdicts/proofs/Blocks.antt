@@ -1,68 +1,48 @@
 -- The check finds that a controller blocks exactly if "some triple has an i with no joint step".
 -- Assumes nothing.
-use mathlib.Core.Path.{_≡_, refl, sym, ap, subst, _∙_}
+use mathlib.Core.Path.{sym, ap, subst, _∙_}
 use mathlib.Core.Logic.{_↔_, _⊎_, inl, inr, ⊎-elim, ∥∥₁-elim}
 use mathlib.Core.HLevel.{⊥-prop}
 use mathlib.Core.Bool.{Bool, true, false, not, _&&_}
-use mathlib.Core.Option.{IsSome}
-use mathlib.Core.List.{List, [], _∷_, List·Memᴰ, List·Memᴰ·head, List·Memᴰ·tail}
+use mathlib.Core.List.{List}
 use Prim.Native.Nat.{ℕ, _<_}
 use lib.Dec.{T, T-not, not-T, eqb, eqb→eq}
 use mir.Facts.{and-yes, yes-and}
 use Rattle.words.specs.System.{letter}
 use Rattle.words.specs.Fit.{Joins}
 use Rattle.words.proofs.Words.{known, is-some}
+use Rattle.words.proofs.Faulty.{Goes, Blocked}
 use Rattle.words.proofs.Codes.{same-code}
 use Rattle.words.proofs.Count.{kept-or-not}
-use Rattle.pairs.specs.Scans.{if_then_else_, all, left}
+use Rattle.pairs.specs.Scans.{if_then_else_, left}
 use Rattle.pairs.specs.Sets.{pairPlace, contextOf, specificationOf}
-use Rattle.pairs.proofs.Scans.{imp-yes, all-yes, any-yes, yes-any}
+use Rattle.pairs.proofs.Scans.{imp-yes, all-yes, not-all, any-yes, yes-any}
 use Rattle.pairs.proofs.Sets.{pair-context, pair-specification}
 use Rattle.pairs.proofs.Lists.{left-mem, mem-left}
 use Rattle.rules.specs.Tables.{Skid, rowState, rowI, rowNext, rowLetter, nextAt}
 use Rattle.rules.specs.Continues.{continuesOn, continues}
 use Rattle.rules.specs.Meaning.{NextTable, Legal, system, tableStep}
 use Rattle.rules.proofs.Rows.{has-there, action, row-context}
-use Rattle.fit.specs.Triples.{has, triples}
-use Rattle.fit.specs.Verdict.{blocks}
-use Rattle.fit.proofs.Sweep.{Held}
-use Rattle.fit.proofs.Rows.{same-yes, joint-row}
-use Rattle.fit.proofs.Held.{any-triple}
-use Rattle.fit.proofs.Triples.{triples-exactly}
+use Rattle.verdicts.specs.Triples.{has, triples}
+use Rattle.verdicts.specs.Verdict.{blocks}
+use Rattle.verdicts.proofs.Sweep.{Held}
+use Rattle.verdicts.proofs.Rows.{same-yes, joint-row}
+use Rattle.verdicts.proofs.Held.{any-triple}
+use Rattle.verdicts.proofs.Triples.{triples-exactly}
 
 not-imp : (a b : Bool) → T (not (if a then b else true)) → T a × (¬ T b)
 not-imp true b t = (tt, T-not b t)
 not-imp false b t = absurd t
 
-not-all : {E : Type 0} (p : E → Bool) (l : List E) → T (not (all p l)) → (x : E) × List·Memᴰ x l × T (not (p x))
-unfolding all
-not-all p [] t = absurd t
-not-all {E} p (y ∷ l) t = go (p y) refl (not-all p l) t
-  where
-    go : (b : Bool) → p y ≡ b → (T (not (all p l)) → (x : E) × List·Memᴰ x l × T (not (p x))) → T (not (if b then all p l else false)) → (x : E) × List·Memᴰ x (y ∷ l) × T (not (p x))
-    go true e rest t = let (x, m, h) = rest t in (x, List·Memᴰ·tail m, h)
-    go false e rest t = (y, List·Memᴰ·head refl, subst (λ b. T (not b)) (sym e) tt)
-
 module _ (k : Skid) (asked : ℕ → ℕ → Bool) (states : ℕ) (next : List ℕ) where
-  -- on i the context from a and the controller from d have a joint step
-  abbrev pub Goes : ℕ → ℕ → system k asked .Input → Type 0
-  Goes a d i = (x : system k asked .Step) × (system k asked .input x ≡ i) × IsSome (system k asked .ctx a x) × IsSome (tableStep k asked next d (letter (system k asked) x))
-
-  -- a triple of P has an asked i without joint step
-  pub record Blocked (P : ℕ → ℕ → ℕ → Type 0) : Type 0 where
-    pub a : ℕ
-    pub c : ℕ
-    pub d : ℕ
-    pub i : system k asked .Input
-    pub from : P a c d
-    pub wanted : system k asked .asked c i
-    pub stuck : ¬ Goes a d i
+  abbrev Steps : ℕ → ℕ → system k asked .Input → Type 0
+  Steps = Goes (system k asked) (tableStep k asked next)
 
   abbrev on : ℕ → ℕ → ℕ → Bool
   on d a i = continuesOn k (has k next d) a i
 
   module _ (legal : Legal k) where
-    goes-law : (a c d : ℕ) → c < k .nC → (i : system k asked .Input) → T (on d a (i .0)) ↔ Goes a d i
+    goes-law : (a c d : ℕ) → c < k .nC → (i : system k asked .Input) → T (on d a (i .0)) ↔ Steps a d i
     unfolding continuesOn
     goes-law a c d hc i = (
       λ t. let (r, m, t₁) = any-yes onRow (k .context) t in
@@ -86,13 +66,13 @@ module _ (k : Skid) (asked : ℕ → ℕ → Bool) (states : ℕ) (next : List �
         onRow : List ℕ → Bool
         onRow r = eqb (rowState r) a && eqb (rowI r) (i .0) && has k next d (rowLetter k r)
 
-    goes-or-stuck : (a c d : ℕ) → c < k .nC → (i : system k asked .Input) → Goes a d i ⊎ (¬ Goes a d i)
+    goes-or-stuck : (a c d : ℕ) → c < k .nC → (i : system k asked .Input) → Steps a d i ⊎ (¬ Steps a d i)
     goes-or-stuck a c d hc i = ⊎-elim (λ t. inl (goes-law a c d hc i .0 t)) (λ f. inr (λ g. f (goes-law a c d hc i .1 g))) (kept-or-not (on d a (i .0)))
 
     abbrev onInput : ℕ → ℕ → ℕ → Bool
     onInput d p i = if asked (specificationOf (k .nC) p) i then on d (contextOf (k .nC) p) i else true
 
-    pub blocks-law : (sets : List ℕ) → T (blocks k states next asked sets) ↔ Blocked (Held k states sets)
+    pub blocks-law : (sets : List ℕ) → T (blocks k states next asked sets) ↔ Blocked (system k asked) (tableStep k asked next) (Held k states sets)
     unfolding blocks continues
     blocks-law sets = (
       λ t. let (a, c, d, h, t₁) = any-triple k legal states next sets (λ s p. not (continues k (has k next s) asked p)) .0 t in

@@ -1,0 +1,16 @@
+pub mod Adds
+pub mod Rows
+pub mod Sweep
+pub mod Swept
+pub mod Triples
+pub mod Complete
+pub mod Held
+pub mod Leaves
+pub mod Blocks
+pub mod Verdicts
+pub mod Checkable
+pub mod Checked
+pub mod Instances
+pub mod Order
+pub mod Skids
+pub mod Determined
