@@ -1,3 +1,12 @@
 pub mod Replied
 pub mod Determined
 pub mod EntryLaws
+pub mod StepLaws
+pub mod RestLaws
+pub mod CompleteLaws
+pub mod MeetLaws
+pub mod LetterLaws
+pub mod ScannedLaws
+pub mod OwnLaws
+pub mod MarkLaws
+pub mod Incomplete

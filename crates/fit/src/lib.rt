@@ -1,9 +1,30 @@
 // The fit check of a controller table against context and specification, and all that the panel takes.
+//
+// The check always ends, and its cost is bounded. Each place of the controller's table is looked at once to find the states that the table reaches by
+// its own rows, and at most once more to see whether they have a row for each u. A triple (a, c, controller state) is worked off at most three times,
+// each time by the rows of the context state a alone: once by the sweep after the one that found it, once when it is asked whether it leaves, and once
+// when it is asked whether it blocks, where its rows are looked at for each i. There are at most 512 times 64 triples. Each sweep but the last
+// finds one at least, and beside the triples that it works off it looks once at the set of each controller state.
+mod complete; // incomplete: a state that the controller reaches has no row for some u
 pub mod panel; // the entries for C
+mod steps; // a controller's next table
 
 ghost use Rattle.verdicts.specs.Verdict.{Replied};
 use rules::Reply;
 use verdicts::Verdict;
+
+// The counts of a skid, and of the controller that is checked against it.
+pub struct Sizes {
+    pub inputs: usize,
+    pub outputs: usize,
+    pub signals: usize,
+    pub replies: usize,
+    pub letters: usize, // signals times replies: the steps of a controller's state
+    pub steps: usize, // inputs times outputs: the steps of a specification's state
+    pub contexts: usize,
+    pub specifications: u32,
+    pub states: usize,
+}
 
 // The reply to reading a controller, and its U and V. For C: seven numbers of 32 bits.
 #[repr(C)]
