@@ -1,7 +1,18 @@
 pub mod Replied
 pub mod Determined
 pub mod EntryLaws
+pub mod FoldLaws
+pub mod FrontierLaws
 pub mod StepLaws
+pub mod IndexLaws
+pub mod JointLaws
+pub mod FurtherLaws
+pub mod WorkLaws
+pub mod LowestLaws
+pub mod WorkSetLaws
+pub mod SweepLaws
+pub mod BoundLaws
+pub mod SetsLaws
 pub mod RestLaws
 pub mod CompleteLaws
 pub mod MeetLaws
@@ -10,3 +21,4 @@ pub mod ScannedLaws
 pub mod OwnLaws
 pub mod MarkLaws
 pub mod Incomplete
+pub mod GrowLaws

@@ -7,7 +7,10 @@
 // finds one at least, and beside the triples that it works off it looks once at the set of each controller state.
 mod complete; // incomplete: a state that the controller reaches has no row for some u
 pub mod panel; // the entries for C
+mod rows; // rows of the context as joint steps
+mod sets; // the sets of all controller states
 mod steps; // a controller's next table
+mod triples; // the triples, grown by sweeps
 
 ghost use Rattle.verdicts.specs.Verdict.{Replied};
 use rules::Reply;
