@@ -22,3 +22,10 @@ pub mod OwnLaws
 pub mod MarkLaws
 pub mod Incomplete
 pub mod GrowLaws
+pub mod RowScanLaws
+pub mod LackLaws
+pub mod LeadLaws
+pub mod ContinuesLaws
+pub mod QuestionLaws
+pub mod MemberLaws
+pub mod AskedLaws

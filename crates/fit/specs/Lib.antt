@@ -1,3 +1,4 @@
 pub mod Inside
 pub mod Panel
 pub mod Ready
+pub mod Questions

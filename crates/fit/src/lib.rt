@@ -6,6 +6,7 @@
 // when it is asked whether it blocks, where its rows are looked at for each i. There are at most 512 times 64 triples. Each sweep but the last
 // finds one at least, and beside the triples that it works off it looks once at the set of each controller state.
 mod complete; // incomplete: a state that the controller reaches has no row for some u
+mod judging; // what the triples are asked
 pub mod panel; // the entries for C
 mod rows; // rows of the context as joint steps
 mod sets; // the sets of all controller states
