@@ -22,6 +22,7 @@ pub mod OwnLaws
 pub mod MarkLaws
 pub mod Incomplete
 pub mod GrowLaws
+pub mod ReachLaws
 pub mod RowScanLaws
 pub mod LackLaws
 pub mod LeadLaws
@@ -29,3 +30,10 @@ pub mod ContinuesLaws
 pub mod QuestionLaws
 pub mod MemberLaws
 pub mod AskedLaws
+pub mod VerdictLaws
+pub mod MatchLaws
+pub mod SpecificationLaws
+pub mod SizesLaws
+pub mod ReadingLaws
+pub mod RefusedLaws
+pub mod CheckLaws

@@ -5,6 +5,7 @@
 // each time by the rows of the context state a alone: once by the sweep after the one that found it, once when it is asked whether it leaves, and once
 // when it is asked whether it blocks, where its rows are looked at for each i. There are at most 512 times 64 triples. Each sweep but the last
 // finds one at least, and beside the triples that it works off it looks once at the set of each controller state.
+pub mod checking; // the check of three records
 mod complete; // incomplete: a state that the controller reaches has no row for some u
 mod judging; // what the triples are asked
 pub mod panel; // the entries for C
@@ -12,6 +13,7 @@ mod rows; // rows of the context as joint steps
 mod sets; // the sets of all controller states
 mod steps; // a controller's next table
 mod triples; // the triples, grown by sweeps
+mod verdict; // the core: the verdict, of a skid and a next table
 
 ghost use Rattle.verdicts.specs.Verdict.{Replied};
 use rules::Reply;

@@ -1,7 +1,9 @@
-// The panel's entries for C: reading of the three records and writing of a controller. Each is one call of the plain function.
+// The panel's entries for C: reading of the three records, writing of a controller, and the check. Each is one call of the plain function.
 ghost use Rattle.rules.specs.Writing.{ControllerWritten};
+ghost use Rattle.verdicts.specs.Check.{Checked};
 ghost use Rattle.fit.specs.Panel.{ContextReplied, SpecificationReplied, ControllerReplied};
 use super::Controller;
+use super::checking::check;
 use records::readers::read_context;
 use records::readers::read_controller;
 use records::readers::read_specification;
@@ -56,4 +58,17 @@ pub extern "C" fn mortarleaf_write_controller(
     ensures { λ r. ⌜ ControllerWritten u v states (now (next .entry)) (now (out .entry)) start r (now (out .exit)) ⌝ }
 {
     write_controller(u, v, states, next, out, start)
+}
+
+// The reached pairs of each controller state go into the lent numbers.
+#[no_mangle]
+pub extern "C" fn mortarleaf_check(
+    context: &[u8],
+    specification: &[u8],
+    controller: &[u8],
+    sets: &mut [u64],
+) -> Reply
+    ensures { λ r. ⌜ Checked (now (context .entry)) (now (specification .entry)) (now (controller .entry)) (now (sets .entry)) r (now (sets .exit)) ⌝ }
+{
+    check(context, specification, controller, sets)
 }
