@@ -1,5 +1,5 @@
-/* Mortarleaf for C: reading of the three table records and writing of the controller record. Link the archive libfit.a (x86-64 Linux).
- * The rules are those of docs/document-01.md, called document 01 below. C11. */
+/* Mortarleaf for C: reading of the three table records, writing of the controller record, and the fit check of a controller. Link the archive
+ * libfit.a (x86-64 Linux). The rules are those of docs/document-01.md, called document 01 below. C11. */
 #ifndef MORTARLEAF_H
 #define MORTARLEAF_H
 
@@ -10,6 +10,7 @@
 enum {
     MORTARLEAF_STATES = 512,            /* the most states of a controller */
     MORTARLEAF_NEXT_NUMBERS = 8192,     /* the numbers of a next table that reading a controller fills: 512 states, U = V = 4 */
+    MORTARLEAF_SET_NUMBERS = 512,       /* the numbers of 64 bits that the fit check fills: one set of pairs for each state of a controller */
     MORTARLEAF_ABSENT = 65535,          /* in a next table: there is no such step */
     MORTARLEAF_CONTROLLER_BYTES = 49160 /* the longest controller record: 2 of length, 6 of kind and counts, 6 for each of 8,192 rows */
 };
@@ -24,14 +25,17 @@ enum {
  *            5  a code or state is not below its count (in writing: a place is neither MORTARLEAF_ABSENT nor below the states)
  *            6  a row's key is equal to that of the row before
  *            7  a row's key is below that of the row before
- *            8  I or O of two records differ (record 2), or U or V (record 3): never from the entries below, which take one record
- *            9  the product of the states is over 64: never from the entries below
+ *            8  I or O of context and specification differ (record 2), or U or V of context and controller (record 3): only from the check
+ *            9  the states of the context times the states of the specification are over 64: only from the check
  *            10 a lent buffer is too short
+ *            14 the controller is incomplete: a state that its own rows reach lacks a row for some u; only from the check
+ *            15 the controller leaves: it lets the skid make a step that the specification does not have; only from the check
+ *            16 the controller blocks: it can bring the skid to where some i has no step; only from the check
  *            If several would fit, reading gives the first of 1, 2, 3, 4; then the first faulty row decides, and within it 5, 6, 7; then 10.
- *            Writing gives 4, then 10, then 5.
+ *            Writing gives 4, then 10, then 5. For the check see there. 11, 12 and 13 belong to solving, which is not in this archive.
  *   record   for 1 to 8 the record refused: 1 context, 2 specification, 3 controller; else 0
  *   row      for 5 to 7 the row refused, from 0 (in writing, for 5: the first bad place of the next table); else 0
- *   states   on success the states of the table read or written; else 0
+ *   states   on success the states of the table read, written or checked; else 0
  *   rounds   0: only solving has rounds */
 struct mortarleaf_reply {
     uint32_t number, record, row, states, rounds;
@@ -42,9 +46,9 @@ struct mortarleaf_controller {
     uint32_t number, record, row, states, rounds, u, v;
 };
 
-/* Lent memory. A buffer is a pointer and the count of what it points to: bytes, or numbers of 16 bits. The pointer is aligned for these and is
- * not NULL, not even where the count is 0. A buffer that is written overlaps no other one of the same call. Every content and every count
- * is answered. Nothing is kept after the call. */
+/* Lent memory. A buffer is a pointer and the count of what it points to: bytes, or numbers of 16 or of 64 bits. The pointer is aligned for these
+ * and is not NULL, not even where the count is 0. A buffer that is written overlaps no other one of the same call. Every content and every
+ * count is answered. Nothing is kept after the call. */
 
 /* Read a context record, or a specification record, of exactly `size` bytes. Nothing is written. */
 struct mortarleaf_reply mortarleaf_read_context(const uint8_t *bytes, size_t size);
@@ -62,5 +66,37 @@ struct mortarleaf_controller mortarleaf_read_controller(const uint8_t *bytes, si
  * 10: fewer than states*u*v numbers, or too few of the `size` bytes from `start` on; `start` may be any number. On a refusal nothing is written. */
 struct mortarleaf_reply mortarleaf_write_controller(uint32_t u, uint32_t v, uint32_t states, const uint16_t *next, size_t count, uint8_t *out,
                                                     size_t size, size_t start);
+
+/* The fit check: is this controller right for this context and this specification? Load no controller table that has not been through the fit
+ * check.
+ *
+ * The records have exactly `context_length`, `specification_length` and `controller_length` bytes. `sets_length` counts numbers of 64 bits; at
+ * least MORTARLEAF_SET_NUMBERS are needed.
+ *
+ * A joint step is a row of the context whose u and v the controller has a row for. Both go on by these rows, and the specification by its row for
+ * the i and o of the context's row. Context, specification and controller begin in state 0, and what joint steps reach while the
+ * specification has a row for each of them is reached.
+ *
+ * If several of these replies would fit, the first is given:
+ *
+ *   1 to 7  the context record is refused as in reading it (record 1)
+ *   1 to 7  the specification record is refused as in reading it (record 2)
+ *   1 to 7  the controller record is refused as in reading it (record 3)
+ *   8       I or O of context and specification differ (record 2)
+ *   8       U or V of context and controller differ (record 3)
+ *   9       the states of the context times the states of the specification are over 64
+ *   10      `sets_length` is below MORTARLEAF_SET_NUMBERS
+ *   14      incomplete: a state that the controller's own rows reach from state 0, whatever the context does, has no row for some u
+ *   15      leaves: from something reached there is a joint step that the specification has no row for
+ *   16      blocks: something reached has an i, below I, with no joint step
+ *   0       it fits; `states` is the count in the controller record, states that are not reached included
+ *
+ * On 0, 15 and 16, sets[s] holds the pairs reached with controller state s: bit a*C + c is 1 exactly if context state a, specification
+ * state c and controller state s are reached together, where C is the states of the specification. On 15 too these are all that are reached,
+ * not only those found before a step that leaves. The numbers of states not reached are 0, and so are those behind the last state, up to
+ * MORTARLEAF_SET_NUMBERS. On 14 all MORTARLEAF_SET_NUMBERS numbers are 0. On every other reply nothing is written. Numbers beyond
+ * MORTARLEAF_SET_NUMBERS never change. */
+struct mortarleaf_reply mortarleaf_check(const uint8_t *context, size_t context_length, const uint8_t *specification, size_t specification_length,
+                                         const uint8_t *controller, size_t controller_length, uint64_t *sets, size_t sets_length);
 
 #endif

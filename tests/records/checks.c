@@ -28,7 +28,7 @@ void same_reply(struct mortarleaf_reply got, struct mortarleaf_reply wanted) {
     same("rounds", got.rounds, wanted.rounds);
 }
 
-int failures(void) { return failed != 0; }
+unsigned long failures(void) { return failed; }
 
 void print_counts(void) { printf("%lu passed, %lu failed\n", passed, failed); }
 
@@ -36,8 +36,7 @@ struct mortarleaf_reply reply(uint32_t number, uint32_t record, uint32_t row, ui
     return (struct mortarleaf_reply){.number = number, .record = record, .row = row, .states = states, .rounds = 0};
 }
 
-/* A test that asks for more room than there is would prove nothing. */
-static void need(int enough, const char *what) {
+void need(int enough, const char *what) {
     if (!enough) {
         printf("%s: the test itself: %s\n0 passed, 1 failed\n", running, what);
         exit(2);

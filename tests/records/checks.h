@@ -13,8 +13,9 @@ void begin_case(const char *function, const char *name);
 /* Comparisons. Each counts as one, passed or failed; one that fails prints what differs. */
 void same(const char *what, uint64_t got, uint64_t wanted);
 void same_reply(struct mortarleaf_reply got, struct mortarleaf_reply wanted); /* five: one for each number */
-int failures(void);
+unsigned long failures(void); /* how many have failed so far */
 void print_counts(void);
+void need(int enough, const char *what); /* a test that asks for more room than there is would prove nothing: it ends everything */
 
 /* A reply of the four numbers that reading and writing tell; rounds are 0. */
 struct mortarleaf_reply reply(uint32_t number, uint32_t record, uint32_t row, uint32_t states);

@@ -10,5 +10,5 @@ int main(void) {
     test_tables();  /* next tables of controllers, written out and built */
     test_writing(); /* writing of controllers, and both round trips */
     print_counts();
-    return failures();
+    return failures() != 0;
 }
