@@ -85,14 +85,7 @@ static void test_k11(unsigned states) {
 static void test_k12(unsigned context_states, unsigned specification_states, uint32_t number) {
     static struct input in;
     uint64_t sets[SETS] = {0};
-    begin_context(&in.context, 2, 2, 2, 2, context_states);
-    for (unsigned a = 0; a < context_states; a++)
-        for (unsigned i = 0; i < 2; i++)
-            for (unsigned v = 0; v < 2; v++) context_row(&in.context, a, i, v, i, v, (a + 1) % context_states);
-    begin_specification(&in.specification, 2, 2, specification_states);
-    for (unsigned c = 0; c < specification_states; c++)
-        for (unsigned i = 0; i < 2; i++) specification_row(&in.specification, c, i, i, (c + 1) % specification_states);
-    from_rows(&in.controller, CONTROLLER, K1_ANSWER);
+    k1_rings(&in, context_states, specification_states, 1, 1);
     if (number == 9) {
         refusal_case("K12, 5 and 13 states", &in, 9, 0, 0);
         return;

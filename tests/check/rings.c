@@ -13,32 +13,18 @@ static unsigned divisor(unsigned x, unsigned y) { return y == 0 ? x : divisor(y,
 
 static uint64_t pair(unsigned a, unsigned c, unsigned c_states) { return UINT64_C(1) << (a * c_states + c); }
 
-/* The context and the controller go on by every row; the specification goes on by every row, or by i=1 alone. */
-static void build_rings(unsigned a_states, unsigned c_states, unsigned s_states, int by_every_row) {
-    begin_context(&in.context, 2, 2, 2, 2, a_states);
-    for (unsigned a = 0; a < a_states; a++)
-        for (unsigned i = 0; i < 2; i++)
-            for (unsigned v = 0; v < 2; v++) context_row(&in.context, a, i, v, i, v, (a + 1) % a_states);
-    begin_specification(&in.specification, 2, 2, c_states);
-    for (unsigned c = 0; c < c_states; c++)
-        for (unsigned i = 0; i < 2; i++) specification_row(&in.specification, c, i, i, (c + (by_every_row ? 1 : i)) % c_states);
-    begin_controller(&in.controller, 2, 2, s_states);
-    for (unsigned s = 0; s < s_states; s++)
-        for (unsigned u = 0; u < 2; u++) controller_row(&in.controller, s, u, u, (s + 1) % s_states);
-}
-
 /* By every row: n steps reach n modulo each ring. By i=1 alone: the specification is anywhere, while context and controller have gone on equally
  * often, so their states are equal modulo the divisor of both rings. */
 static void ring_case(unsigned a_states, unsigned c_states, unsigned s_states) {
     uint64_t sets[SETS] = {0};
     char name[100];
     snprintf(name, sizeof name, "rings of %u, %u and %u states", a_states, c_states, s_states);
-    build_rings(a_states, c_states, s_states, 1);
+    k1_rings(&in, a_states, c_states, s_states, 1);
     for (unsigned n = 0; n < a_states * c_states * s_states; n++) sets[n % s_states] |= pair(n % a_states, n % c_states, c_states);
     check_once(name, &in, reply(0, 0, 0, s_states), sets);
 
     snprintf(name, sizeof name, "rings of %u, %u and %u states, the second by i=1", a_states, c_states, s_states);
-    build_rings(a_states, c_states, s_states, 0);
+    k1_rings(&in, a_states, c_states, s_states, 0);
     memset(sets, 0, sizeof sets);
     for (unsigned a = 0; a < a_states; a++)
         for (unsigned s = 0; s < s_states; s++)
@@ -51,7 +37,7 @@ static void ring_case(unsigned a_states, unsigned c_states, unsigned s_states) {
 static void all_triples(void) {
     uint64_t sets[SETS] = {0};
     for (unsigned s = 0; s < 7; s++) sets[s] = UINT64_MAX;
-    build_rings(8, 8, 7, 0);
+    k1_rings(&in, 8, 8, 7, 0);
     check_case("8 and 8 states, 7 controller states: every triple", &in, reply(0, 0, 0, 7), sets);
 }
 

@@ -95,3 +95,16 @@ void input_from_rows(struct input *in, const char *context, const char *specific
     from_rows(&in->specification, SPECIFICATION, specification);
     from_rows(&in->controller, CONTROLLER, controller);
 }
+
+void k1_rings(struct input *in, unsigned a_states, unsigned c_states, unsigned s_states, int by_every_row) {
+    begin_context(&in->context, 2, 2, 2, 2, a_states);
+    for (unsigned a = 0; a < a_states; a++)
+        for (unsigned i = 0; i < 2; i++)
+            for (unsigned v = 0; v < 2; v++) context_row(&in->context, a, i, v, i, v, (a + 1) % a_states);
+    begin_specification(&in->specification, 2, 2, c_states);
+    for (unsigned c = 0; c < c_states; c++)
+        for (unsigned i = 0; i < 2; i++) specification_row(&in->specification, c, i, i, (c + (by_every_row ? 1 : i)) % c_states);
+    begin_controller(&in->controller, 2, 2, s_states);
+    for (unsigned s = 0; s < s_states; s++)
+        for (unsigned u = 0; u < 2; u++) controller_row(&in->controller, s, u, u, (s + 1) % s_states);
+}

@@ -34,4 +34,8 @@ void input_from_rows(struct input *in, const char *context, const char *specific
 #define K1_SPECIFICATION "2 2 1 | 0 0 0 0 | 0 1 1 0"
 #define K1_ANSWER "2 2 1 | 0 0 0 0 | 0 1 1 0"
 
+/* K1 and its answer as rings of so many context, specification and controller states. Context and controller go on by every row; the specification goes
+ * on by every row, or by i=1 alone. */
+void k1_rings(struct input *in, unsigned a_states, unsigned c_states, unsigned s_states, int by_every_row);
+
 #endif

@@ -30,7 +30,7 @@ use Rattle.verdicts.proofs.Checkable.{judged}
 use Rattle.fit.specs.declared.Sizes.{Sizes}
 use Rattle.fit.specs.Ready.{Ready, Judged}
 use Rattle.fit.specs.Matched.{matchRefusal, sizesOf, SkidRead, Matched}
-use Rattle.fit.proofs.SizesLaws.{sizes-read, sizes-ready, specification-long, controller-long, letters-few}
+use Rattle.fit.proofs.SizesLaws.{sizes-read, sizes-ready, specification-long, controller-long, table-few}
 use Rattle.fit.proofs.ReadingLaws.{controller-sound, controller-counts}
 use Rattle.fit.proofs.RefusedLaws.{match-told}
 
@@ -92,7 +92,7 @@ module _ (context specification controller sets : List ℕ) where
       matched e = record {
         ready = ready-so;
         table-long = specification-long context specification controller sets checkable ∙ ap (λ z. z .specifications * z .steps) (sym sizes-are);
-        next-long = omega (arith, e, letters-few z (ready-so .few));
+        next-long = omega (arith, e, table-few z (ready-so .few));
         room = checkable .room;
       }
         where

@@ -24,8 +24,8 @@ use Rattle.fit.specs.Ready.{Few, Ready}
 use Rattle.fit.specs.Matched.{sizesOf}
 
 -- a controller's next table
-pub letters-few : (z : Sizes) → Few z → z .states * z .letters ≤ 8192
-letters-few z few = rw (few .letters-are) (mul-le-mul (few .few-states) (mul-le-mul (few .few-signals) (few .few-replies)))
+pub table-few : (z : Sizes) → Few z → z .states * z .letters ≤ 8192
+table-few z few = rw (few .letters-are) (mul-le-mul (few .few-states) (mul-le-mul (few .few-signals) (few .few-replies)))
 
 module _ (context specification controller : List ℕ) where
   abbrev pub sizes-read : Sizes

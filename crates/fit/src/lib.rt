@@ -4,7 +4,8 @@
 // its own rows, and at most once more to see whether they have a row for each u. A triple (a, c, controller state) is worked off at most three times,
 // each time by the rows of the context state a alone: once by the sweep after the one that found it, once when it is asked whether it leaves, and once
 // when it is asked whether it blocks, where its rows are looked at for each i. There are at most 512 times 64 triples. Each sweep but the last
-// finds one at least, and beside the triples that it works off it looks once at the set of each controller state.
+// finds one at least. Beside the triples that it works off, it goes three times over the sets of the controller's states: to see what is new in
+// them, whether it has changed any (up to the first), and to hand them on.
 pub mod checking; // the check of three records
 mod complete; // incomplete: a state that the controller reaches has no row for some u
 mod judging; // what the triples are asked
