@@ -5,8 +5,8 @@ use mathlib.Core.List.{List, [], _∷_, flatMap}
 use lib.ListN.{replicate}
 use Rattle.pairs.specs.Scans.{upward, left}
 use Rattle.rules.specs.Skids.{contextRecord, freeTwo}
-use Rattle.solver.specs.Solve.{SolveOutcome}
-use Rattle.solver.specs.Skids.{computed}
+use Rattle.answers.specs.Solve.{SolveOutcome}
+use Rattle.answers.specs.Skids.{computed}
 
 -- "State 0 loops on i=0 with each u, goes to 1 on i=1, u=1; state k goes to k+1 on i=0 with each u, the last has no rows."
 unfoldable pub k11Rows : ℕ → List (List ℕ)

@@ -12,10 +12,11 @@ use Rattle.rules.specs.declared.Kind.{Kind}
 use Rattle.rules.specs.declared.Counts.{Counts}
 use Rattle.rules.specs.declared.ContextRow.{ContextRow}
 use Rattle.rules.specs.declared.StateRows.{StateRows}
+use Rattle.rules.specs.Zeros.{SetsZeroed, NextZeroed}
 use Rattle.rules.specs.Counts.{CountsRead}
 use Rattle.rules.specs.Faults.{Limited}
 use Rattle.rules.specs.Tables.{SpecificationFilled}
-use Rattle.rules.specs.ContextRows.{ContextRowRead, StateRowsFound, RowFound}
+use Rattle.rules.specs.ContextRows.{ContextRowRead, StateRowsFound, RowFound, RowsIndexed}
 use Rattle.rules.specs.Replies.{Succeeded, RefusedAt, Refused}
 use Rattle.rules.specs.Reading.{ContextRead, SpecificationRead, ControllerRead}
 use Rattle.rules.specs.Writing.{ControllerWritten}
@@ -59,3 +60,12 @@ state-rows-determined b a from r s = determined
 
 pub row-found-determined : (b : List ℕ) (a : CtxState) (i v u o r s : ℕ) → RowFound b a i v u o r → RowFound b a i v u o s → r ≡ s
 row-found-determined b a i v u o r s = determined
+
+pub rows-indexed-determined : (b : List ℕ) (states : ℕ) (index r s : List ℕ) → RowsIndexed b states index r → RowsIndexed b states index s → r ≡ s
+rows-indexed-determined b states index r s = determined
+
+pub sets-zeroed-determined : (sets : List ℕ) (from : ℕ) (r s : List ℕ) → SetsZeroed sets from r → SetsZeroed sets from s → r ≡ s
+sets-zeroed-determined sets from r s = determined
+
+pub next-zeroed-determined : (next : List ℕ) (from : ℕ) (r s : List ℕ) → NextZeroed next from r → NextZeroed next from s → r ≡ s
+next-zeroed-determined next from r s = determined

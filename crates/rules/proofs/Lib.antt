@@ -10,10 +10,14 @@ pub mod RowsOfState
 pub mod Places
 pub mod Letters
 pub mod Read
+pub mod Firsts
 pub mod Numbering
 pub mod Discover
 pub mod Fuel
+pub mod Scanning
 pub mod Reached
+pub mod Discovered
+pub mod OrderDetermined
 pub mod Refusals
 pub mod Lent
 pub mod WrittenAgain

@@ -3,11 +3,12 @@
 -- Assumes nothing.
 use mathlib.Core.Path.{_≡_}
 use Prim.Native.Nat.{ℕ, suc, _+_}
-use mathlib.Core.List.{List, []}
-use lib.Dec.{leb}
-use lib.ListN.{getD, drop}
+use mathlib.Core.List.{List, [], map}
+use lib.Dec.{leb, ltb}
+use lib.ListN.{length, getD, drop}
 use Rattle.pairs.specs.declared.CtxState.{CtxState}
-use Rattle.pairs.specs.Scans.{firstPlace}
+use Rattle.pairs.specs.Scans.{if_then_else_, firstPlace, left}
+use Rattle.pairs.specs.Lent.{leading}
 use Rattle.rules.specs.declared.ContextRow.{ContextRow}
 use Rattle.rules.specs.declared.StateRows.{StateRows}
 use Rattle.rules.specs.Layouts.{contextLayout}
@@ -31,6 +32,14 @@ stateRows b a from =
     let first : ℕ = firstRow rows a from in
     record { first = first; end = firstRow rows (suc a) first }
 
+-- the first row of each state, and behind them the number of rows where no row is of a state beyond
+unfoldable pub firstRows : List (List ℕ) → ℕ → List ℕ
+firstRows rows states = map (λ a. firstRow rows a 0) (left 0 (suc states))
+
+-- these at the front of an index; one that is too short stays whole
+abbrev pub indexRows : List ℕ → ℕ → List ℕ → List ℕ
+indexRows b states index = if ltb states (length index) then leading (firstRows (rowsIn contextLayout b) states) index else index
+
 -- what the functions ensure, for every slice of bytes
 abbrev pub ContextRowRead : List ℕ → ℕ → ContextRow → Type 0
 ContextRowRead b k r = r ≡ contextRow b k
@@ -40,3 +49,6 @@ StateRowsFound b a from r = r ≡ stateRows b (a .0) from
 
 abbrev pub RowFound : List ℕ → CtxState → ℕ → ℕ → ℕ → ℕ → ℕ → Type 0
 RowFound b a i v u o r = r ≡ rowNumber (rowsIn contextLayout b) (a .0) i v u o
+
+abbrev pub RowsIndexed : List ℕ → ℕ → List ℕ → List ℕ → Type 0
+RowsIndexed b states index index′ = index′ ≡ indexRows b states index

@@ -1,4 +1,5 @@
 pub mod Limits
+pub mod Zeros
 pub mod Layouts
 pub mod Bytes
 pub mod Records
@@ -10,6 +11,8 @@ pub mod Tables
 pub mod ContextRows
 pub mod Matching
 pub mod Discover
+pub mod Reached
+pub mod FirstDiscovery
 pub mod Continues
 pub mod Reading
 pub mod Writing

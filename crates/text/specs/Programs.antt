@@ -10,7 +10,7 @@ use Rattle.rules.specs.declared.Counts.{Counts}
 use Rattle.rules.specs.Counts.{contextCounts}
 use Rattle.rules.specs.Replies.{refusal}
 use Rattle.verdicts.specs.Check.{check}
-use Rattle.solver.specs.Solve.{SolveOutcome, solve}
+use Rattle.answers.specs.Solve.{SolveOutcome, solve}
 use Rattle.text.specs.Lines.{refusedText, solvedText, checkedText}
 use Rattle.text.specs.Inputs.{solveLimit, fitLimit, firstRecord, behind}
 

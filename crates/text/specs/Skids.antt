@@ -18,11 +18,11 @@ use Rattle.rules.specs.Discover.{meet, scan, discover}
 use Rattle.rules.specs.Continues.{everyInput, answers, continuesOn, continues}
 use Rattle.rules.specs.Skids.{Case, Printing}
 use Rattle.verdicts.specs.Skids.{checks}
-use Rattle.solver.specs.Plain.{reached, byRow, byPair, after, startSet, plain}
-use Rattle.solver.specs.Rounds.{round, deletion, lasting}
-use Rattle.solver.specs.Unblocked.{setsOf, passes, unblocked, afresh}
-use Rattle.solver.specs.Solve.{plainSolution, unblockedSolution, solutionOf, solution, solveRefusal, solved, solveFor, solveBy, solve}
-use Rattle.solver.specs.Skids.{solves}
+use Rattle.answers.specs.Plain.{reached, byRow, byPair, after, startSet, plain}
+use Rattle.answers.specs.Rounds.{round, deletion, lasting}
+use Rattle.answers.specs.Unblocked.{setsOf, passes, unblocked, afresh}
+use Rattle.answers.specs.Solve.{plainSolution, unblockedSolution, solutionOf, solution, solveRefusal, solved, solveFor, solveBy, solve}
+use Rattle.answers.specs.Skids.{solves}
 use Rattle.text.specs.Lines.{decimal, digits, line, statesWord, roundsWord, refusedWord, recordWord, rowWord, refusedText, solvedText}
 use Rattle.text.specs.Inputs.{solveLimit, recordEnd, firstRecord, behind}
 use Rattle.text.specs.Programs.{solvePrinted, solveText}

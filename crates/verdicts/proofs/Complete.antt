@@ -21,11 +21,12 @@ use Rattle.pairs.proofs.Lists.{mem-at, at-mem, left-mem, mem-left}
 use Rattle.rules.specs.NextTables.{there}
 use Rattle.rules.specs.Tables.{Skid, letterAt, letters, nextAt}
 use Rattle.rules.specs.Discover.{discover}
+use Rattle.rules.specs.Reached.{Reaches}
 use Rattle.rules.specs.Continues.{answers}
 use Rattle.rules.specs.Meaning.{NextTable, system, letterOf, tableStep}
 use Rattle.rules.proofs.Numbering.{Each}
 use Rattle.rules.proofs.Discover.{never-over}
-use Rattle.rules.proofs.Reached.{Reaches, only-reached, all-reached}
+use Rattle.rules.proofs.Reached.{only-reached, all-reached}
 use Rattle.rules.proofs.Rows.{has-there, there-has, entry-below}
 use Rattle.rules.proofs.Letters.{letter-listed, letter-at}
 use Rattle.verdicts.specs.Triples.{has}

@@ -4,7 +4,7 @@ use mathlib.Core.Path.{_≡_, refl}
 use mathlib.Core.List.{[]}
 use Rattle.pairs.specs.Scans.{all}
 use Rattle.rules.specs.Skids.{skids, failing}
-use Rattle.solver.specs.Skids.{solves}
+use Rattle.answers.specs.Skids.{solves}
 
 pub skids-solved : failing (λ c. all (solves c) (c .solving)) 0 skids ≡ []
 unfolding failing skids all solves

@@ -14,8 +14,8 @@ use Rattle.rules.specs.Records.{rowsOf}
 use Rattle.rules.specs.Faults.{headFault, rowFault, rowsFault, fault}
 use Rattle.rules.specs.Replies.{success, refusal, unless, _orElse_, faultReply, recordRefusal}
 use Rattle.rules.specs.Matching.{skidRefusal, outsideAgree, productFits, outsideRefusal, productRefusal}
-use Rattle.solver.specs.declared.Answer.the-variants.{Table, TooMany, None}
-use Rattle.solver.specs.Solve.{answerReply, solveRefusal, solveFor, solveBy, solve}
+use Rattle.answers.specs.declared.Answer.the-variants.{Table, TooMany, None}
+use Rattle.answers.specs.Solve.{answerReply, solveRefusal, solveFor, solveBy, solve}
 
 -- I=O=U=V=1. "States 8 and 8 pass, 5 and 13 give 9."
 abbrev context : ℕ → List ℕ

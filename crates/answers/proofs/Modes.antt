@@ -2,9 +2,9 @@
 -- Assumes nothing.
 use mathlib.Core.Path.{_≡_, refl, sym, ap}
 use Prim.Native.Nat.{ℕ, zero, suc}
-use Rattle.solver.specs.declared.Wanted.the-variants.{Plain, Unblocked}
-use Rattle.solver.specs.declared.Mode.the-variants.{Known, Unknown}
-use Rattle.solver.specs.Solve.{modeOf}
+use Rattle.answers.specs.declared.Wanted.the-variants.{Plain, Unblocked}
+use Rattle.answers.specs.declared.Mode.the-variants.{Known, Unknown}
+use Rattle.answers.specs.Solve.{modeOf}
 
 pub plain-mode : (number : ℕ) → number ≡ 0 → Known Plain ≡ modeOf number
 plain-mode number e = ap modeOf (sym e)

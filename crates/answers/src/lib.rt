@@ -1,5 +1,6 @@
-// The plain answer and the unblocked answer.
-ghost use Rattle.solver.specs.Solve.{ModeOf};
+// What document 01 says of solving: the plain answer and the unblocked answer, the reply and the lent buffers, and the types of what is asked and found.
+// Its only code tells what a mode number asks for.
+ghost use Rattle.answers.specs.Solve.{ModeOf};
 
 // The answers that can be asked for.
 pub enum Wanted {

@@ -1,8 +1,8 @@
--- `solver::mode_of` meets its contract.
+-- `answers::mode_of` meets its contract.
 -- Assumes nothing.
-use Rattle.solver.proofs.Modes.{plain-mode, unblocked-mode, unknown-mode}
-use Rattle.solver.proofs.mode_of.Statement.{statement}
-use Rattle.solver.proofs.mode_of.Tie as tie
+use Rattle.answers.proofs.Modes.{plain-mode, unblocked-mode, unknown-mode}
+use Rattle.answers.proofs.mode_of.Statement.{statement}
+use Rattle.answers.proofs.mode_of.Tie as tie
 
 returns : tie.Need-returns
 returns c = search plain-mode

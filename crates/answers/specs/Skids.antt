@@ -23,10 +23,10 @@ use Rattle.rules.specs.Matching.{skidRefusal, outsideAgree, productFits, outsid
 use Rattle.rules.specs.Discover.{meet, scan, discover}
 use Rattle.rules.specs.Continues.{everyInput, answers, continuesOn, continues}
 use Rattle.rules.specs.Skids.{Case, Solving}
-use Rattle.solver.specs.Plain.{reached, byRow, byPair, after, startSet, plain}
-use Rattle.solver.specs.Rounds.{round, deletion, lasting}
-use Rattle.solver.specs.Unblocked.{setsOf, passes, unblocked, afresh}
-use Rattle.solver.specs.Solve.{SolveOutcome, plainSolution, unblockedSolution, solutionOf, solution, solveRefusal, solved, solveFor, solveBy, solve}
+use Rattle.answers.specs.Plain.{reached, byRow, byPair, after, startSet, plain}
+use Rattle.answers.specs.Rounds.{round, deletion, lasting}
+use Rattle.answers.specs.Unblocked.{setsOf, passes, unblocked, afresh}
+use Rattle.answers.specs.Solve.{SolveOutcome, plainSolution, unblockedSolution, solutionOf, solution, solveRefusal, solved, solveFor, solveBy, solve}
 
 -- `solve`, with all that it stands on unfolded
 unfoldable pub computed : ℕ → List ℕ → List ℕ → List ℕ → List ℕ → SolveOutcome

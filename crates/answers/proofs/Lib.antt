@@ -1,4 +1,6 @@
 pub mod Modes
+pub mod Plain
+pub mod After
 pub mod Kept
 pub mod Rounds
 pub mod Order
