@@ -27,10 +27,12 @@ use Rattle.verdicts.specs.Verdict.{verdictReply}
 use Rattle.verdicts.specs.Check.{setsNamed, judge, Checked}
 use Rattle.verdicts.specs.Checkable.{Checkable}
 use Rattle.verdicts.proofs.Checkable.{judged}
-use Rattle.fit.specs.declared.Sizes.{Sizes}
+use Rattle.tables.specs.declared.Sizes.{Sizes}
+use Rattle.tables.specs.Skids.{sizesOf, SkidRead}
+use Rattle.tables.proofs.SkidLaws.{sizesRead, sizes-are, specification-long}
 use Rattle.fit.specs.Ready.{Ready, Judged}
-use Rattle.fit.specs.Matched.{matchRefusal, sizesOf, SkidRead, Matched}
-use Rattle.fit.proofs.SizesLaws.{sizes-read, sizes-ready, specification-long, controller-long, table-few}
+use Rattle.fit.specs.Matched.{matchRefusal, Matched}
+use Rattle.fit.proofs.SizesLaws.{sizes-read, sizes-ready, controller-long, table-few}
 use Rattle.fit.proofs.ReadingLaws.{controller-sound, controller-counts}
 use Rattle.fit.proofs.RefusedLaws.{match-told}
 
@@ -77,30 +79,30 @@ module _ (context specification controller sets : List ℕ) where
           room = leb-true setNumbers (length sets) (unless-fine _ 10 0 refl e₄);
         }
 
-    module _ (z : Sizes) (z-is : z ≡ sizesOf c s (read .counts)) where
-      sizes-are : z ≡ sizes-read context specification controller
-      sizes-are = z-is ∙ rw (skid .context-counts, skid .specification-counts, counts-are)
+    module _ (z : Sizes) (z-is : z ≡ sizesOf c s (read .counts .states)) where
+      counted : z ≡ sizes-read context specification controller
+      counted = sizes-are context specification (read .counts .states) c s skid z z-is ∙ ap (λ t. sizesRead context specification (t .states)) counts-are
 
       -- the part of the next table that is lent
       lent-is : take (z .states * z .letters) next ≡ controllerTable controller
       unfolding nextNumbers
       lent-is =
           ap (take (z .states * z .letters)) (reading .next-is ∙ read-next controller array (checkable .controller-sound) (omega (arith, whole)))
-          ∙ front-filled 8192 (controllerTable controller) array (z .states * z .letters) (controller-long context specification controller sets checkable ∙ ap (λ z. z .states * z .letters) (sym sizes-are))
+          ∙ front-filled 8192 (controllerTable controller) array (z .states * z .letters) (controller-long context specification controller sets checkable ∙ ap (λ z. z .states * z .letters) (sym counted))
 
       pub matched : length next ≡ 8192 → Matched z context specification next sets
       matched e = record {
         ready = ready-so;
-        table-long = specification-long context specification controller sets checkable ∙ ap (λ z. z .specifications * z .steps) (sym sizes-are);
+        table-long = specification-long context specification (controllerCounts controller .states) (checkable .outside-agrees) ∙ ap (λ z. z .specifications * z .steps) (sym counted);
         next-long = omega (arith, e, table-few z (ready-so .few));
         room = checkable .room;
       }
         where
           ready-so : Ready z context (specificationTable specification) (take (z .states * z .letters) next)
-          ready-so = subst₂ (λ z l. Ready z context (specificationTable specification) l) (sym sizes-are) (sym lent-is) (sizes-ready context specification controller sets checkable)
+          ready-so = subst₂ (λ z l. Ready z context (specificationTable specification) l) (sym counted) (sym lent-is) (sizes-ready context specification controller sets checkable)
 
       pub check-done : (v : Verdict) (sets′ : List ℕ) → Judged z context (specificationTable specification) (take (z .states * z .letters) next) sets v sets′
           → (r : Reply) → r ≡ verdictReply (read .counts .states) v → Checked context specification controller sets r sets′
       check-done v sets′ j r e =
-          check-judged checkable v sets′ (subst₂ (λ z l. Judged z context (specificationTable specification) l sets v sets′) sizes-are lent-is j) r
+          check-judged checkable v sets′ (subst₂ (λ z l. Judged z context (specificationTable specification) l sets v sets′) counted lent-is j) r
           (e ∙ ap (λ c. verdictReply (c .states) v) counts-are)

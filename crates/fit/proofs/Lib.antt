@@ -1,19 +1,13 @@
 pub mod Replied
 pub mod Determined
 pub mod EntryLaws
-pub mod FoldLaws
 pub mod FrontierLaws
-pub mod StepLaws
-pub mod IndexLaws
-pub mod JointLaws
 pub mod FurtherLaws
 pub mod WorkLaws
-pub mod LowestLaws
 pub mod WorkSetLaws
 pub mod SweepLaws
 pub mod BoundLaws
 pub mod SetsLaws
-pub mod RestLaws
 pub mod CompleteLaws
 pub mod MeetLaws
 pub mod LetterLaws
@@ -23,7 +17,6 @@ pub mod MarkLaws
 pub mod Incomplete
 pub mod GrowLaws
 pub mod ReachLaws
-pub mod RowScanLaws
 pub mod LackLaws
 pub mod LeadLaws
 pub mod ContinuesLaws

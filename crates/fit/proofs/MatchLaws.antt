@@ -11,7 +11,7 @@ use Rattle.pairs.specs.Lent.{setSize}
 use Rattle.rules.specs.declared.Reply.{Reply}
 use Rattle.rules.specs.declared.Counts.{Counts}
 use Rattle.rules.specs.Limits.{stateLimit, setNumbers}
-use Rattle.rules.specs.Layouts.{contextLayout, specificationLayout, controllerLayout}
+use Rattle.rules.specs.Layouts.{controllerLayout}
 use Rattle.rules.specs.Counts.{contextCounts, specificationCounts, controllerCounts}
 use Rattle.rules.specs.Replies.{success, refusal, unless, _orElse_, recordRefusal}
 use Rattle.rules.specs.Matching.{skidRefusal, outsideAgree, outsideRefusal, lettersAgree, lettersRefusal, productFits, productRefusal}
@@ -71,9 +71,9 @@ module _ (c s t : Counts) (room : ℕ) (r : Reply) where
 
 -- these are the refusals of the check after those of the records
 pub check-refusal : (context specification controller sets : List ℕ) → checkRefusal context specification controller sets ≡ (
-    (recordRefusal 1 contextLayout context orElse recordRefusal 2 specificationLayout specification)
+    skidRefusal context specification
     orElse recordRefusal 3 controllerLayout controller
     orElse matchRefusal (contextCounts context) (specificationCounts specification) (controllerCounts controller) (length sets)
     )
-unfolding checkRefusal skidRefusal outsideRefusal outsideAgree lettersRefusal lettersAgree productRefusal productFits matchRefusal
+unfolding checkRefusal outsideRefusal outsideAgree lettersRefusal lettersAgree productRefusal productFits matchRefusal
 check-refusal context specification controller sets = refl

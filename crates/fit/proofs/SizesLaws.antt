@@ -1,4 +1,4 @@
--- Three records that may be checked, by their counts: within the limits, the skid legal, and tables as long as the counts say.
+-- Three records that may be checked, by their counts: the skid within the limits and legal, and tables as long as the counts say.
 -- Assumes nothing.
 use mathlib.Core.Path.{_≡_, refl, sym, ap₂, _∙_}
 use mathlib.Core.List.{List}
@@ -6,22 +6,22 @@ use Prim.Native.Nat.{ℕ, _*_, _≤_}
 use native.Mathlib.Nat.{mul-le-mul}
 use native.Mathlib.Omega.{arith}
 use lib.ListN.{length}
-use borrow.Author.Tests.{leb-true}
-use Rattle.pairs.specs.Sets.{pairLimit}
 use Rattle.rules.specs.Limits.{stateLimit}
-use Rattle.rules.specs.Layouts.{contextLayout, specificationLayout, controllerLayout}
+use Rattle.rules.specs.Layouts.{controllerLayout}
 use Rattle.rules.specs.Records.{rowsIn}
 use Rattle.rules.specs.Counts.{contextCounts, specificationCounts, controllerCounts}
-use Rattle.rules.specs.Matching.{outsideAgree, lettersAgree, productFits}
-use Rattle.rules.specs.Tables.{skidOf, specificationTable, controllerTable}
+use Rattle.rules.specs.Matching.{lettersAgree}
+use Rattle.rules.specs.Tables.{specificationTable, controllerTable}
 use Rattle.rules.proofs.Sound.{count-within}
-use Rattle.rules.proofs.Legal.{legal-skid, read-controller}
+use Rattle.rules.proofs.Legal.{read-controller}
 use Rattle.rules.proofs.NextTables.{table-length}
 use Rattle.rules.proofs.Read.{agreeing}
 use Rattle.verdicts.specs.Checkable.{Checkable}
-use Rattle.fit.specs.declared.Sizes.{Sizes}
-use Rattle.fit.specs.Ready.{Few, Ready}
-use Rattle.fit.specs.Matched.{sizesOf}
+use Rattle.tables.specs.declared.Sizes.{Sizes}
+use Rattle.tables.specs.Inside.{Few, Workable}
+use Rattle.tables.specs.Skids.{SkidRead}
+use Rattle.tables.proofs.SkidLaws.{sizesRead, sizes-workable}
+use Rattle.fit.specs.Ready.{Ready}
 
 -- a controller's next table
 pub table-few : (z : Sizes) → Few z → z .states * z .letters ≤ 8192
@@ -29,42 +29,23 @@ table-few z few = rw (few .letters-are) (mul-le-mul (few .few-states) (mul-le-mu
 
 module _ (context specification controller : List ℕ) where
   abbrev pub sizes-read : Sizes
-  sizes-read = sizesOf (contextCounts context) (specificationCounts specification) (controllerCounts controller)
+  sizes-read = sizesRead context specification (controllerCounts controller .states)
 
   module _ (sets : List ℕ) (ok : Checkable context specification controller sets) where
-    few-sizes : Few sizes-read
-    unfolding contextLayout specificationLayout controllerLayout stateLimit productFits pairLimit
-    few-sizes = record {
-      few-inputs = count-within contextLayout context (ok .context-sound) 0 (omega arith) .1;
-      few-outputs = count-within contextLayout context (ok .context-sound) 1 (omega arith) .1;
-      few-signals = count-within contextLayout context (ok .context-sound) 2 (omega arith) .1;
-      few-replies = count-within contextLayout context (ok .context-sound) 3 (omega arith) .1;
-      few-pairs = leb-true (contextCounts context .states * specificationCounts specification .states) 64 (ok .product-fits);
-      few-contexts = count-within contextLayout context (ok .context-sound) 4 (omega arith) .1;
-      few-specifications = count-within specificationLayout specification (ok .specification-sound) 2 (omega arith) .1;
-      few-states = count-within controllerLayout controller (ok .controller-sound) 2 (omega arith) .1;
-      letters-are = refl;
-      steps-are = refl;
-    }
+    skid : SkidRead context specification (contextCounts context) (specificationCounts specification)
+    skid = record { context-sound = ok .context-sound; specification-sound = ok .specification-sound; context-counts = refl; specification-counts = refl }
+
+    states-few : controllerCounts controller .states ≤ 512
+    unfolding controllerLayout stateLimit
+    states-few = count-within controllerLayout controller (ok .controller-sound) 2 (omega arith) .1
+
+    workable : Workable sizes-read context (specificationTable specification)
+    workable = sizes-workable context specification (controllerCounts controller .states) _ _ skid states-few (ok .product-fits)
 
     pub sizes-ready : Ready sizes-read context (specificationTable specification) (controllerTable controller)
-    unfolding skidOf
-    sizes-ready = record {
-      few = few-sizes;
-      sound = ok .context-sound;
-      legal = legal-skid context specification (ok .context-sound) (ok .specification-sound);
-      table = read-controller controller (ok .controller-sound);
-    }
+    sizes-ready = record { few = workable .few; sound = workable .sound; legal = workable .legal; table = read-controller controller (ok .controller-sound) }
 
-    -- I and O are those of the context, and so are U and V
-    pub specification-long : length (specificationTable specification) ≡ sizes-read .specifications * sizes-read .steps
-    unfolding specificationTable outsideAgree
-    specification-long =
-        let c = contextCounts context in
-        let s = specificationCounts specification in
-        let (ei, eo) = agreeing (c .i) (s .i) (c .o) (s .o) (ok .outside-agrees) in
-        table-length (s .i) (s .o) (s .states) (rowsIn specificationLayout specification) ∙ ap₂ (λ i o. s .states * (i * o)) (sym ei) (sym eo)
-
+    -- U and V are those of the context
     pub controller-long : length (controllerTable controller) ≡ sizes-read .states * sizes-read .letters
     unfolding controllerTable lettersAgree
     controller-long =

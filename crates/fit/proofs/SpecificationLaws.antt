@@ -1,46 +1,20 @@
--- A specification's next table at the front of an array of 4,096 numbers: the part that is lent is the table.
+-- A specification's next table, lent as the front of an array: what is ready and what is judged with the one is so with the other.
 -- Assumes nothing.
-use mathlib.Core.Path.{_≡_, sym, ap, subst, _∙_}
+use mathlib.Core.Path.{_≡_}
 use mathlib.Core.List.{List}
-use Prim.Native.Nat.{ℕ, _*_, _^_, _≤_, _<_}
-use native.Mathlib.Nat.{mul-le-mul}
-use native.Mathlib.Omega.{arith}
-use lib.ListN.{length, take, drop}
-use lib.Seq.{take-at}
-use borrow.Author.Tests.{le-leb}
-use Rattle.pairs.specs.Lent.{leading}
-use Rattle.rules.specs.Tables.{specificationTable, fillSpecification, SpecificationFilled}
+use Prim.Native.Nat.{ℕ, _*_}
+use lib.ListN.{length, take}
+use Rattle.rules.specs.Tables.{specificationTable, SpecificationFilled}
 use Rattle.verdicts.specs.declared.Verdict.{Verdict}
-use Rattle.fit.specs.declared.Sizes.{Sizes}
-use Rattle.fit.specs.Ready.{Few, Ready, Judged}
+use Rattle.tables.specs.declared.Sizes.{Sizes}
+use Rattle.tables.specs.Inside.{Few}
+use Rattle.tables.proofs.SpecificationLaws.{lent-has, lent-had}
+use Rattle.fit.specs.Ready.{Ready, Judged}
 
-module _ (z : Sizes) where
-  abbrev size : ℕ
-  size = z .specifications * z .steps
+module _ (z : Sizes) (few : Few z) (specification : List ℕ) (long : length (specificationTable specification) ≡ z .specifications * z .steps) (array table : List ℕ) (whole : length array ≡ 4096) (filled : SpecificationFilled specification array table) (context next : List ℕ) where
+  pub lent-ready : Ready z context (specificationTable specification) next → Ready z context (take (z .specifications * z .steps) table) next
+  lent-ready = lent-has z few specification long array table whole filled (λ l. Ready z context l next)
 
-  size-few : Few z → size ≤ 4096
-  size-few few = rw (few .steps-are) (mul-le-mul (few .few-specifications) (mul-le-mul (few .few-inputs) (few .few-outputs)))
-
-  pub steps-fit : Few z → size < 2 ^ 64
-  steps-fit few = omega (arith, size-few few)
-
-  module _ (few : Few z) (specification : List ℕ) (long : length (specificationTable specification) ≡ size) (array table : List ℕ) (whole : length array ≡ 4096) (filled : SpecificationFilled specification array table) where
-    table-leads : table ≡ leading (specificationTable specification) array
-    unfolding fillSpecification
-    table-leads = filled ∙ rw (le-leb (length (specificationTable specification)) (length array) (omega (arith, long, whole, size-few few)))
-
-    lent-is : take size table ≡ specificationTable specification
-    lent-is = ap (take size) table-leads ∙ take-at (specificationTable specification) (drop (length (specificationTable specification)) array) size long
-
-    pub lent-count : size ≡ length (take size table)
-    lent-count = sym (ap length lent-is ∙ long)
-
-    module _ (context next : List ℕ) where
-      pub lent-ready : Ready z context (specificationTable specification) next → Ready z context (take size table) next
-      lent-ready ready = subst (λ l. Ready z context l next) (sym lent-is) ready
-
-      pub lent-judged : (sets : List ℕ) (v : Verdict) (sets′ : List ℕ) → Judged z context (take size table) next sets v sets′ → Judged z context (specificationTable specification) next sets v sets′
-      lent-judged sets v sets′ judged = subst (λ l. Judged z context l next sets v sets′) lent-is judged
-
-pub lent-within : (z : Sizes) (few : Few z) (table : List ℕ) → length table ≡ 4096 → z .specifications * z .steps ≤ length table
-lent-within z few table whole = omega (arith, whole, size-few z few)
+  pub lent-judged : (sets : List ℕ) (v : Verdict) (sets′ : List ℕ) → Judged z context (take (z .specifications * z .steps) table) next sets v sets′
+      → Judged z context (specificationTable specification) next sets v sets′
+  lent-judged sets v sets′ = lent-had z few specification long array table whole filled (λ l. Judged z context l next sets v sets′)

@@ -5,15 +5,13 @@ ghost use lib.ListN.{length, take};
 ghost use Rattle.rules.specs.Limits.{setNumbers};
 ghost use Rattle.rules.specs.Tables.{specificationTable};
 ghost use Rattle.verdicts.specs.Check.{Checked};
+ghost use Rattle.tables.specs.Skids.{SkidRead};
 ghost use Rattle.fit.specs.Ready.{Ready, Judged};
-ghost use Rattle.fit.specs.Matched.{matchRefusal, sizesOf, Matched, SkidRead};
-use super::Sizes;
+ghost use Rattle.fit.specs.Matched.{matchRefusal, Matched};
 use super::verdict::judge;
 use super::verdict_reply;
 use pairs::PAIR_LIMIT;
-use records::readers::read_context;
 use records::readers::read_controller;
-use records::readers::read_specification;
 use records::tables::fill_specification;
 use rules::Counts;
 use rules::NEXT_NUMBERS;
@@ -21,10 +19,11 @@ use rules::Reply;
 use rules::SET_NUMBERS;
 use rules::refused;
 use rules::succeeded;
+use tables::SPECIFICATION_NUMBERS;
+use tables::Sizes;
+use tables::skids::read_skid;
+use tables::skids::sizes_of;
 use verdicts::Verdict;
-
-// The largest specification: 64 states, 8 i and 8 o.
-const SPECIFICATION_NUMBERS: usize = 4096;
 
 // Refusals 8, 9 and 10 of three records that were read: of the counts of context, specification and controller, and of so many lent numbers.
 fn match_refusal(c: Counts, s: Counts, t: Counts, room: usize) -> Reply
@@ -49,23 +48,6 @@ fn match_refusal(c: Counts, s: Counts, t: Counts, room: usize) -> Reply
         return refused(10, 0);
     }
     succeeded(0, 0)
-}
-
-// The counts side by side. Of counts of 32 bits no product overflows.
-fn sizes_of(c: Counts, s: Counts, t: Counts) -> Sizes
-    ensures { λ r. ⌜ r ≡ sizesOf c s t ⌝ }
-{
-    Sizes {
-        inputs: c.i as usize,
-        outputs: c.o as usize,
-        signals: c.u as usize,
-        replies: c.v as usize,
-        letters: c.u as usize * c.v as usize,
-        steps: c.i as usize * c.o as usize,
-        contexts: c.states as usize,
-        specifications: s.states,
-        states: t.states as usize,
-    }
 }
 
 // The verdict on a next table, of the two records of a skid: the specification becomes a next table.
@@ -125,7 +107,7 @@ fn check_controller(
     if found.number != 0 {
         return found;
     }
-    let sizes = sizes_of(c, s, t);
+    let sizes = sizes_of(c, s, t.states as usize);
     let verdict = check_matched(context, specification, &next, sizes, sets);
     verdict_reply(verdict, t.states)
 }
@@ -134,22 +116,17 @@ fn check_controller(
 pub fn check(context: &[u8], specification: &[u8], controller: &[u8], sets: &mut [u64]) -> Reply
     ensures { λ r. ⌜ Checked (now (context .entry)) (now (specification .entry)) (now (controller .entry)) (now (sets .entry)) r (now (sets .exit)) ⌝ }
 {
-    let first = read_context(context);
-    let reply = first.reply;
+    let read = read_skid(context, specification);
+    let reply = read.reply;
     if reply.number != 0 {
         return reply;
-    }
-    let second = read_specification(specification);
-    let answer = second.reply;
-    if answer.number != 0 {
-        return answer;
     }
     check_controller(
         context,
         specification,
         controller,
-        first.counts,
-        second.counts,
+        read.context,
+        read.specification,
         sets,
     )
 }

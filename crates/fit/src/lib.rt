@@ -10,28 +10,14 @@ pub mod checking; // the check of three records
 mod complete; // incomplete: a state that the controller reaches has no row for some u
 mod judging; // what the triples are asked
 pub mod panel; // the entries for C
-mod rows; // rows of the context as joint steps
+mod rows; // rows of the context as steps of the controller
 mod sets; // the sets of all controller states
-mod steps; // a controller's next table
 mod triples; // the triples, grown by sweeps
 mod verdict; // the core: the verdict, of a skid and a next table
 
 ghost use Rattle.verdicts.specs.Verdict.{Replied};
 use rules::Reply;
 use verdicts::Verdict;
-
-// The counts of a skid, and of the controller that is checked against it.
-pub struct Sizes {
-    pub inputs: usize,
-    pub outputs: usize,
-    pub signals: usize,
-    pub replies: usize,
-    pub letters: usize, // signals times replies: the steps of a controller's state
-    pub steps: usize, // inputs times outputs: the steps of a specification's state
-    pub contexts: usize,
-    pub specifications: u32,
-    pub states: usize,
-}
 
 // The reply to reading a controller, and its U and V. For C: seven numbers of 32 bits.
 #[repr(C)]

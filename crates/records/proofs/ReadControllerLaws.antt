@@ -3,20 +3,19 @@
 use mathlib.Core.Path.{_≡_, refl, sym, ap, _∙_}
 use mathlib.Core.Bool.{Bool, true, false}
 use mathlib.Core.List.{List, _++_}
-use Prim.Native.Nat.{ℕ, _+_, _-_, _*_, _≤_, _<_}
+use Prim.Native.Nat.{ℕ, _*_, _≤_, _<_}
 use native.Mathlib.Nat.{mul-le-mul}
 use native.Mathlib.Omega.{arith}
 use lib.Dec.{eqb}
-use lib.ListN.{length, take, drop}
-use lib.Seq.{take-at, drop-append-add, drop-drop}
+use lib.ListN.{length, drop}
 use borrow.Author.Tests.{le-leb, lt-leb}
-use Rattle.pairs.specs.Lent.{filled}
 use Rattle.rules.specs.declared.Reply.{Reply}
 use Rattle.rules.specs.declared.Counts.{Counts}
 use Rattle.rules.specs.declared.Reading.{Reading}
 use Rattle.rules.specs.declared.Fault.the-variants.{Sound}
 use Rattle.rules.specs.declared.Kind.the-variants.{Controller}
 use Rattle.rules.specs.Limits.{stateLimit, nextNumbers}
+use Rattle.rules.specs.Zeros.{NextZeroed}
 use Rattle.rules.specs.Layouts.{controllerLayout}
 use Rattle.rules.specs.Records.{rowsIn}
 use Rattle.rules.specs.Counts.{controllerCounts, noCounts}
@@ -25,20 +24,11 @@ use Rattle.rules.specs.Replies.{success, refusal, refuses, unless, _orElse_, re
 use Rattle.rules.specs.NextTables.{tableOf}
 use Rattle.rules.specs.Tables.{controllerTable}
 use Rattle.rules.specs.Reading.{readUnless, readRecord, controllerRefusal, readController, ControllerRead}
-use Rattle.pairs.specs.Lent.{leading}
 use Rattle.records.specs.Inside.{ledBy}
+use Rattle.pairs.proofs.Zeroed.{zeroed-leading}
 use Rattle.rules.proofs.Sound.{count-within}
 use Rattle.rules.proofs.ReadsFine.{read-fine, no-fault, read-reading, read-next}
 use Rattle.rules.proofs.NextTables.{table-length}
-
--- a table that leads a buffer, then zeros up to n
-led-filled : (n : ℕ) (table buffer : List ℕ) → length table ≤ n
-    → filled n (take (length table) (leading table buffer)) (leading table buffer) ≡ filled n table buffer
-unfolding filled
-led-filled n table buffer h =
-    let e : n ≡ length table + (n - length table) = omega arith in
-    let behind : drop n (leading table buffer) ≡ drop n buffer = rw (e, drop-append-add table (drop (length table) buffer) (n - length table), drop-drop) in
-    rw (take-at table (drop (length table) buffer) (length table) refl, behind)
 
 module _ (b next : List ℕ) (read : Reading) (read-is : read ≡ readRecord Controller b) where
   abbrev refused : Reply
@@ -95,7 +85,7 @@ module _ (b next : List ℕ) (read : Reading) (read-is : read ≡ readRecord Con
     states-small = omega (arith, states-few)
 
     module _ (size : ℕ) (size-is : size ≡ read .counts .states * (read .counts .u * read .counts .v)) where
-      pub size-within : size ≤ 8192
+      size-within : size ≤ 8192
       size-within = rw size-is (mul-le-mul states-few (mul-le-mul u-few v-few))
 
       table-is : tableOf (read .counts .u) (read .counts .v) (read .counts .states) (rowsIn controllerLayout b) ≡ controllerTable b
@@ -107,12 +97,12 @@ module _ (b next : List ℕ) (read : Reading) (read-is : read ≡ readRecord Con
 
       pub controller-filled : 8192 ≤ length next → (led zeroed : List ℕ)
           → led ≡ ledBy (tableOf (read .counts .u) (read .counts .v) (read .counts .states) (rowsIn controllerLayout b)) next
-          → zeroed ≡ filled 8192 (take size led) led → ControllerRead b next read zeroed
+          → NextZeroed led size zeroed → ControllerRead b next read zeroed
       unfolding nextNumbers
       controller-filled room led zeroed led-is zeroed-is =
           let fits : length (controllerTable b) ≤ length next = omega (arith, long, size-within) in
           let led-by : led ≡ controllerTable b ++ drop (length (controllerTable b)) next = led-is ∙ rw (table-is, le-leb (length (controllerTable b)) (length next) fits) in
           record {
             reading-is = reading-is ∙ sym (read-reading b next faultless room);
-            next-is = zeroed-is ∙ rw (led-by, ← long) (led-filled 8192 (controllerTable b) next (rw long size-within)) ∙ sym (read-next b next faultless room);
+            next-is = zeroed-is ∙ rw (led-by, ← long) (zeroed-leading 8192 (controllerTable b) next (rw long size-within) room) ∙ sym (read-next b next faultless room);
           }

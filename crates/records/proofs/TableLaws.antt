@@ -9,7 +9,8 @@ use native.Mathlib.Omega.{arith}
 use lib.ListN.{length, getD, take, drop, set, replicate, length-append, length-replicate, length-drop, length-set, take-append-drop, replicate-append-replicate, drop-of-length-le}
 use lib.Seq.{length-take-le, drop-cons, set-at, set-out, append-snoc, take-at, drop-at, drop-drop, getD-drop}
 use borrow.Author.Tests.{le-leb, lt-leb}
-use Rattle.pairs.specs.Lent.{filled}
+use Rattle.pairs.specs.Lent.{filled, zeroedFrom}
+use Rattle.pairs.proofs.Zeroed.{zeroed-there}
 use Rattle.rules.specs.declared.Counts.{Counts}
 use Rattle.rules.specs.declared.Kind.the-variants.{Specification}
 use Rattle.rules.specs.Limits.{absent}
@@ -73,11 +74,14 @@ painted-all v s₀ s i p h =
     let e : i - 0 ≡ length s₀ = omega (arith, p .within) in
     p .so-far ∙ rw (e, drop-of-length-le s₀ h, append-nil)
 
-pub painted-up : (a n : ℕ) (s₀ s : List ℕ) (i : ℕ) → Painted 0 a n s₀ s i → n ≤ i → s ≡ filled n (take a s₀) s₀
+painted-up : (a n : ℕ) (s₀ s : List ℕ) (i : ℕ) → Painted 0 a n s₀ s i → n ≤ i → s ≡ filled n (take a s₀) s₀
 unfolding painted filled
 painted-up a n s₀ s i p h =
     let e : i ≡ n = omega (arith, p .within) in
     p .so-far ∙ rw (before-length 0 a n s₀ s i p, e)
+
+pub zeroed-up : (a n : ℕ) (s₀ s : List ℕ) (i : ℕ) → Painted 0 a n s₀ s i → n ≤ i → s ≡ zeroedFrom n a s₀
+zeroed-up a n s₀ s i p h = painted-up a n s₀ s i p h ∙ sym (zeroed-there n a s₀ (p .room) (omega (arith, p .begun, p .within)))
 
 -- ---- the place of a step fits
 block-few : (m n : ℕ) → m < 65536 → n < 65536 → m * n ≤ 4294836225

@@ -1,10 +1,10 @@
 // Next tables: the rows (state, x, y, next) of a specification or a controller, by place.
 ghost use mathlib.Core.Path.{_≡_};
 ghost use mathlib.Core.List.{foldl};
-ghost use Prim.Native.Nat.{_*_, _<_, _≤_};
-ghost use lib.ListN.{length, take, replicate};
-ghost use Rattle.pairs.specs.Lent.{filled};
+ghost use Prim.Native.Nat.{_*_, _<_};
+ghost use lib.ListN.{length, replicate};
 ghost use Rattle.rules.specs.Limits.{absent};
+ghost use Rattle.rules.specs.Zeros.{NextZeroed};
 ghost use Rattle.rules.specs.Layouts.{layoutOf};
 ghost use Rattle.rules.specs.Records.{rowsIn};
 ghost use Rattle.rules.specs.NextTables.{withRow, tableOf};
@@ -79,11 +79,16 @@ pub(crate) fn fill_table(
     size
 }
 
-// Zeros from a place up to 8,192.
-pub(crate) fn zero_after(next: &mut [u16], size: usize)
-    requires { ⌜ (size ≤ 8192) × (8192 ≤ length (now next)) ⌝ }
-    ensures { λ _. ⌜ now (next .exit) ≡ filled 8192 (take size (now (next .entry))) (now (next .entry)) ⌝ }
+// Zeros from a place up to 8,192. A table that is too short stays whole, and so does one where the place is beyond.
+pub fn zero_after(next: &mut [u16], size: usize)
+    ensures { λ _. ⌜ NextZeroed (now (next .entry)) size (now (next .exit)) ⌝ }
 {
+    if next.len() < NEXT_NUMBERS {
+        return;
+    }
+    if NEXT_NUMBERS < size {
+        return;
+    }
     let mut p = size;
     while p < NEXT_NUMBERS {
         next[p] = 0;

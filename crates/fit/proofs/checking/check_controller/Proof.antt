@@ -23,6 +23,9 @@ match-refusal-requires c κs = search needs
 returns-2 : tie.Need-returns-2
 returns-2 c = search match-stays
 
+cast-sizes-of : tie.Need-cast-sizes-of
+cast-sizes-of c = search needs
+
 sizes-of-requires : tie.Need-sizes-of-requires
 sizes-of-requires c κs = search needs
 
@@ -32,10 +35,10 @@ slice-aggregate-check-matched c = search needs
 check-matched-requires : tie.Need-check-matched-requires
 check-matched-requires c κs =
     let chosen = c .before .before in
-    let found = chosen .before .before .before in
+    let found = chosen .before .before .before .before in
     let read = found .before .before .before .before .before .before in
     let start = read .before .before .before .before .before .before in
-    matched _ _ _ _ _ _ (start .pre) _ (length-replicate {A = ℕ} 8192 0) _ _ (read .read-controller .ensures) (found .before .before .if1 .left) _ (found .match-refusal .ensures) (chosen .before .if2 .left) _
+    matched _ _ _ _ _ _ (start .pre) _ (length-replicate {A = ℕ} 8192 0) _ _ (read .read-controller .ensures) (found .before .before .if1 .left) _ (found .match-refusal .ensures) (chosen .before .before .if2 .left) _
     (chosen .sizes-of .ensures) (search needs)
 
 verdict-reply-requires : tie.Need-verdict-reply-requires
@@ -48,10 +51,10 @@ returns-3 : tie.Need-returns-3
 returns-3 c =
     let answered = c .before .before .before in
     let chosen = answered .before .before .before in
-    let found = chosen .before .before .before in
+    let found = chosen .before .before .before .before in
     let read = found .before .before .before .before .before .before in
     let start = read .before .before .before .before .before .before in
-    check-done _ _ _ _ _ _ (start .pre) _ (length-replicate {A = ℕ} 8192 0) _ _ (read .read-controller .ensures) (found .before .before .if1 .left) _ (found .match-refusal .ensures) (chosen .before .if2 .left) _
+    check-done _ _ _ _ _ _ (start .pre) _ (length-replicate {A = ℕ} 8192 0) _ _ (read .read-controller .ensures) (found .before .before .if1 .left) _ (found .match-refusal .ensures) (chosen .before .before .if2 .left) _
     (chosen .sizes-of .ensures) _ _ (answered .check-matched .ensures) _ (c .verdict-reply .ensures)
 
 pub check-controller-spec : {M : Type 1} → statement M
@@ -63,6 +66,7 @@ check-controller-spec =
     returns
     match-refusal-requires
     returns-2
+    cast-sizes-of
     sizes-of-requires
     slice-aggregate-check-matched
     check-matched-requires

@@ -1,7 +1,8 @@
 -- `fit::checking::check_read` meets its contract.
 -- Assumes nothing.
 use borrow.Author.Needs.{needs}
-use Rattle.fit.proofs.SpecificationLaws.{steps-fit, lent-within, lent-count, lent-ready, lent-judged}
+use Rattle.tables.proofs.SpecificationLaws.{steps-fit, lent-within, lent-count}
+use Rattle.fit.proofs.SpecificationLaws.{lent-ready, lent-judged}
 use Rattle.fit.proofs.checking.check_read.Statement.{statement}
 use Rattle.fit.proofs.checking.check_read.Tie as tie
 

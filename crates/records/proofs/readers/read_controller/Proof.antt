@@ -1,7 +1,7 @@
 -- `records::readers::read_controller` meets its contract.
 -- Assumes nothing.
 use borrow.Author.Needs.{needs}
-use Rattle.records.proofs.ReadControllerLaws.{controller-refused, controller-short, u-small, v-small, states-small, size-within, controller-filled}
+use Rattle.records.proofs.ReadControllerLaws.{controller-refused, controller-short, u-small, v-small, states-small, controller-filled}
 use Rattle.records.proofs.readers.read_controller.Statement.{statement}
 use Rattle.records.proofs.readers.read_controller.Tie as tie
 
@@ -24,7 +24,7 @@ fill-table-requires : tie.Need-fill-table-requires
 fill-table-requires c κs = (search u-small, search v-small, search states-small)
 
 zero-after-requires : tie.Need-zero-after-requires
-zero-after-requires c κs = (search size-within, search needs)
+zero-after-requires c κs = search needs
 
 same-length : tie.Need-same-length
 same-length c = search needs

@@ -2,7 +2,9 @@
 -- Assumes nothing.
 use Prim.Native.Nat.{_-_}
 use borrow.Author.Needs.{needs}
-use Rattle.records.proofs.TableLaws.{Painted, painted-none, painted-length, painted-inside, painted-more, painted-up}
+use Rattle.pairs.proofs.Zeroed.{zeroed-short, zeroed-beyond}
+use Rattle.rules.specs.Limits.{nextNumbers}
+use Rattle.records.proofs.TableLaws.{Painted, painted-none, painted-length, painted-inside, painted-more, zeroed-up}
 use Rattle.records.proofs.tables.zero_after.Statement.{statement}
 use Rattle.records.proofs.tables.zero_after.Tie as tie
 
@@ -11,6 +13,14 @@ Inv-loop next₀ size p₀ next p = Painted 0 size 8192 next₀ next p
 
 abbrev μ-loop : tie.MeasureT-loop
 μ-loop next₀ size p₀ next p = 8192 - p
+
+returns : tie.Need-returns Inv-loop μ-loop
+unfolding nextNumbers
+returns c = search zeroed-short
+
+returns-2 : tie.Need-returns-2 Inv-loop μ-loop
+unfolding nextNumbers
+returns-2 c = search zeroed-beyond
 
 loop-holds : tie.Need-loop-holds Inv-loop μ-loop
 loop-holds c = search painted-none
@@ -33,8 +43,9 @@ loop-again c = search painted-more
 same-length : tie.Need-same-length Inv-loop μ-loop
 same-length c = search painted-length
 
-returns : tie.Need-returns Inv-loop μ-loop
-returns c = search painted-up
+returns-3 : tie.Need-returns-3 Inv-loop μ-loop
+unfolding nextNumbers
+returns-3 c = search zeroed-up
 
 pub zero-after-spec : {M : Type 1} → statement M
 zero-after-spec =
@@ -42,6 +53,8 @@ zero-after-spec =
     (tie.spec
     Inv-loop
     μ-loop
+    returns
+    returns-2
     loop-holds
     mul-next
     slice-write-next
@@ -49,4 +62,4 @@ zero-after-spec =
     loop-less
     loop-again
     same-length
-    returns)
+    returns-3)

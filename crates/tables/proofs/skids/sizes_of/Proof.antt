@@ -1,9 +1,9 @@
--- `fit::checking::sizes_of` meets its contract.
+-- `tables::skids::sizes_of` meets its contract.
 -- Assumes nothing.
 use borrow.Author.Needs.{needs}
 use Rattle.pairs.proofs.MethodLaws.{product-fits}
-use Rattle.fit.proofs.checking.sizes_of.Statement.{statement}
-use Rattle.fit.proofs.checking.sizes_of.Tie as tie
+use Rattle.tables.proofs.skids.sizes_of.Statement.{statement}
+use Rattle.tables.proofs.skids.sizes_of.Tie as tie
 
 cast-t4 : tie.Need-cast-t4
 cast-t4 c = search needs
@@ -38,9 +38,6 @@ mul-t13 c = record { fits = search product-fits }
 cast-t14 : tie.Need-cast-t14
 cast-t14 c = search needs
 
-cast-t15 : tie.Need-cast-t15
-cast-t15 c = search needs
-
 returns : tie.Need-returns
 returns c = search needs
 
@@ -59,5 +56,4 @@ sizes-of-spec =
     cast-t12
     mul-t13
     cast-t14
-    cast-t15
     returns)

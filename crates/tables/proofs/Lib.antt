@@ -1,0 +1,15 @@
+pub mod StepLaws
+pub mod FirstRowLaws
+pub mod IndexLaws
+pub mod JointLaws
+pub mod LowestLaws
+pub mod RestLaws
+pub mod RowScanLaws
+pub mod ReadingLaws
+pub mod SkidReadLaws
+pub mod SkidLaws
+pub mod SpecificationLaws
+pub mod Determined
+pub mod RowLaws
+pub mod RowFoldLaws
+pub mod MemberFoldLaws
