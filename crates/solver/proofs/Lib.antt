@@ -1,0 +1,14 @@
+pub mod StayLaws
+pub mod FindLaws
+pub mod LeadLaws
+pub mod TurnLaws
+pub mod ScanLaws
+pub mod PlainLaws
+pub mod ByRowLaws
+pub mod ByPairLaws
+pub mod AfterLaws
+pub mod AnswerLaws
+pub mod MatchLaws
+pub mod RefusedLaws
+pub mod LentLaws
+pub mod SolvedLaws
