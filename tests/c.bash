@@ -7,10 +7,10 @@ cd "$(dirname "${BASH_SOURCE[0]}")/.."
 # Is there a C compiler, with the headers that the tests use?
 compiles() { command -v gcc >/dev/null && printf '#include <stdio.h>\n' | gcc -fsyntax-only -x c - 2>/dev/null; }
 
-# c_test NAME FILE..: build the panel's archive and the test program of these C files, and run it. Its last line is 'N passed, M failed'.
+# c_test NAME CRATE: build the crate's archive and the test program of tests/NAME and tests/common, and run it. Its last line is
+# 'N passed, M failed'.
 c_test() {
-    local name=$1 folder=target/tests/$1 archive=target/staticlib/libfit.a status=0
-    shift
+    local name=$1 crate=$2 folder=target/tests/$1 archive=target/staticlib/lib$2.a status=0
     stop() {
         printf 'tests/%s: %s\n0 passed, 1 failed\n' "$name" "$1"
         exit 1
@@ -27,12 +27,12 @@ c_test() {
     mkdir -p "$folder"
     # the archive proves what it is made of, which takes a minute: it is made once, and again when a crate has changed
     if [[ ! -e $archive || -n $(find crates crates.txt -newer "$archive" -print -quit) ]]; then
-        rt staticlib fit >"$folder/staticlib.log" 2>&1 || {
+        rt staticlib "$crate" >"$folder/staticlib.log" 2>&1 || {
             tail -n 20 "$folder/staticlib.log"
-            stop 'rt staticlib fit failed'
+            stop "rt staticlib $crate failed"
         }
     fi
-    gcc -std=c11 -Wall -Wextra -Werror -O2 -Iinclude -Itests/records "$@" "$archive" -o "$folder/$name" ||
+    gcc -std=c11 -Wall -Wextra -Werror -O2 -Iinclude -Itests/common "tests/$name"/*.c tests/common/*.c "$archive" -o "$folder/$name" ||
         stop 'the tests do not compile'
     "$folder/$name" >"$folder/$name.log" || status=$?
     cat "$folder/$name.log"

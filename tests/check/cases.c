@@ -1,36 +1,15 @@
-/* Lent numbers with guards, and the comparison of what a check replies and writes with what is wanted. */
+/* The comparison of what a check replies and writes with what is wanted. */
 #include "cases.h"
 
-#include <inttypes.h>
 #include <stdio.h>
 #include <string.h>
 
-/* The numbers that are lent, with guards before and behind. No pattern is 0, and no two places hold the same. */
-enum { MOST_SETS = 700 };
-static uint64_t whole[GUARDS + MOST_SETS + GUARDS], after[GUARDS + MOST_SETS + GUARDS];
+/* Numbers to lend, and how they must be afterwards; NULL: they stay. */
+static struct sets numbers;
 
 static void lend(size_t lent, const uint64_t *sets) {
-    need(lent <= MOST_SETS, "too many numbers");
-    for (size_t k = 0; k < lent + 2 * GUARDS; k++) whole[k] = after[k] = UINT64_C(0xA55A96693CC3F00F) + UINT64_C(0x9E3779B97F4A7C15) * k;
-    if (sets) memcpy(after + GUARDS, sets, SETS * sizeof *sets);
-}
-
-/* One comparison: the first place that differs is printed; places before the buffer are below 0. */
-static void same_sets(size_t lent) {
-    char what[120] = "the lent numbers";
-    size_t k = 0;
-    while (k + 1 < lent + 2 * GUARDS && whole[k] == after[k]) k++;
-    if (whole[k] != after[k])
-        snprintf(what, sizeof what, "the lent numbers, place %ld, in hex %" PRIX64 " for %" PRIX64, (long)k - GUARDS, whole[k], after[k]);
-    same(what, whole[k], after[k]);
-}
-
-/* Of a long record only the front is printed: the case's name says how it is built. */
-static void show_record(const char *name, const struct record *r) {
-    size_t shown = r->size <= 2100 ? r->size : 60;
-    printf("    %s (%zu bytes):", name, r->size);
-    for (size_t k = 0; k < shown; k++) printf(" %02X", r->bytes[k]);
-    printf(shown < r->size ? " ..\n" : "\n");
+    fill_sets(&numbers, lent);
+    if (sets) memcpy(wanted_sets(&numbers), sets, SETS * sizeof *sets);
 }
 
 static void show(const struct input *in) {
@@ -40,13 +19,6 @@ static void show(const struct input *in) {
     show_record("specification", &in->specification);
     show_record("controller", &in->controller);
     if (shown == 20) printf("    (the records of further cases are not printed)\n");
-}
-
-int hopeless(void) {
-    static int said;
-    if (failures() <= 300) return 0;
-    if (!said++) printf("so much has failed that the long series of cases are cut short\n");
-    return 1;
 }
 
 void check_lent(const char *name, const struct input *in, size_t lent, struct mortarleaf_reply wanted, const uint64_t *sets) {
@@ -60,9 +32,9 @@ void check_lent(const char *name, const struct input *in, size_t lent, struct mo
     hold_bytes(&controller, in->controller.bytes, in->controller.size);
     lend(lent, sets);
     same_reply(mortarleaf_check(lent_bytes(&context), context.size, lent_bytes(&specification), specification.size, lent_bytes(&controller),
-                                controller.size, whole + GUARDS, lent),
+                                controller.size, lent_sets(&numbers), lent),
                wanted);
-    same_sets(lent);
+    same_sets("the lent numbers", &numbers);
     same_bytes("the context's bytes", &context);
     same_bytes("the specification's bytes", &specification);
     same_bytes("the controller's bytes", &controller);
@@ -73,8 +45,8 @@ void check_once(const char *name, const struct input *in, struct mortarleaf_repl
     unsigned long before = failures();
     begin_case("the reference", name);
     lend(SETS, sets);
-    same_reply(reference(in, SETS, whole + GUARDS), wanted);
-    same_sets(SETS);
+    same_reply(reference(in, SETS, lent_sets(&numbers)), wanted);
+    same_sets("the lent numbers", &numbers);
     if (failures() != before) show(in);
     check_lent(name, in, 530, wanted, sets);
 }

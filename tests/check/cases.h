@@ -23,9 +23,6 @@ void refusal_case(const char *name, const struct input *in, uint32_t number, uin
 /* A case of which only the reference knows what is wanted. The reply that is wanted. */
 uint32_t compared_case(const char *name, const struct input *in, size_t lent);
 
-/* So much has failed that long series of cases would only print more of it: they end here. */
-int hopeless(void);
-
 /* Cases as texts. The reached pairs of the first states are given as numbers; all other states have none. */
 struct small_check {
     const char *name, *context, *specification, *controller;

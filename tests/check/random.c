@@ -1,6 +1,5 @@
 /* Random skids and controllers, small ones and large ones: reply and all lent numbers as the reference has them. */
 #include "cases.h"
-#include "chance.h"
 
 #include <stdio.h>
 
@@ -20,17 +19,10 @@ static void random_cases(const char *size, struct most most, unsigned first, uns
 
 void test_random(void) {
     static const uint32_t common[] = {0, 14, 15, 16}, others[] = {8, 9, 10};
-    char what[100];
     random_cases("small", (struct most){3, 3, 3, 3, 4, 4, 5}, 0, 6000);
     if (hopeless()) return;
     begin_case("the test itself", "random small skids");
-    for (size_t k = 0; k < 4; k++) {
-        snprintf(what, sizeof what, "reply %u is wanted 100 times or more (%lu)", common[k], counts[common[k]]);
-        same(what, counts[common[k]] >= 100, 1);
-    }
-    for (size_t k = 0; k < 3; k++) {
-        snprintf(what, sizeof what, "reply %u is wanted 50 times or more (%lu)", others[k], counts[others[k]]);
-        same(what, counts[others[k]] >= 50, 1);
-    }
+    for (size_t k = 0; k < 4; k++) wanted_often(counts, common[k], 100);
+    for (size_t k = 0; k < 3; k++) wanted_often(counts, others[k], 50);
     random_cases("large", (struct most){8, 8, 4, 4, 64, 64, 512}, 10000, 60);
 }

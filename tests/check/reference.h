@@ -2,7 +2,7 @@
 #ifndef REFERENCE_H
 #define REFERENCE_H
 
-#include "skids.h"
+#include "inputs.h"
 
 /* "The check lends at least 512 numbers of 64 bits". */
 enum { SETS = 512 };

@@ -19,12 +19,12 @@ static void ring_case(unsigned a_states, unsigned c_states, unsigned s_states) {
     uint64_t sets[SETS] = {0};
     char name[100];
     snprintf(name, sizeof name, "rings of %u, %u and %u states", a_states, c_states, s_states);
-    k1_rings(&in, a_states, c_states, s_states, 1);
+    k1_rings_answered(&in, a_states, c_states, s_states, 1);
     for (unsigned n = 0; n < a_states * c_states * s_states; n++) sets[n % s_states] |= pair(n % a_states, n % c_states, c_states);
     check_once(name, &in, reply(0, 0, 0, s_states), sets);
 
     snprintf(name, sizeof name, "rings of %u, %u and %u states, the second by i=1", a_states, c_states, s_states);
-    k1_rings(&in, a_states, c_states, s_states, 0);
+    k1_rings_answered(&in, a_states, c_states, s_states, 0);
     memset(sets, 0, sizeof sets);
     for (unsigned a = 0; a < a_states; a++)
         for (unsigned s = 0; s < s_states; s++)
@@ -37,7 +37,7 @@ static void ring_case(unsigned a_states, unsigned c_states, unsigned s_states) {
 static void all_triples(void) {
     uint64_t sets[SETS] = {0};
     for (unsigned s = 0; s < 7; s++) sets[s] = UINT64_MAX;
-    k1_rings(&in, 8, 8, 7, 0);
+    k1_rings_answered(&in, 8, 8, 7, 0);
     check_case("8 and 8 states, 7 controller states: every triple", &in, reply(0, 0, 0, 7), sets);
 }
 

@@ -3,7 +3,7 @@
  *   length, 43 58, I O U V states | state i v u o next     length 7 + 6 times the rows
  *
  * The counts differ from each other where rows are tested, so that no count can stand for another. */
-#include "checks.h"
+#include "cases.h"
 
 static const struct small contexts[] = {
     /* 0 */

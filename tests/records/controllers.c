@@ -4,7 +4,7 @@
  *
  * The counts differ from each other where rows are tested, so that no count can stand for another. 02 01 are
  * 258 states; 01 01 is the last of them, 02 01 is none. */
-#include "checks.h"
+#include "cases.h"
 
 static const struct small controllers[] = {
     /* 0 */

@@ -1,5 +1,5 @@
 /* Records at their limits and over them, built row by row. All counts are at their limits, and keys rise with the row's number. */
-#include "checks.h"
+#include "cases.h"
 
 #include <stdio.h>
 #include <string.h>

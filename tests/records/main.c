@@ -1,5 +1,5 @@
 /* Runs the panel's entries from C. What is expected was written by hand from document 01. */
-#include "checks.h"
+#include "cases.h"
 
 int main(void) {
     /* records in bytes: every refusal of each kind in each of its ways */

@@ -3,7 +3,7 @@
  *   length, 53 50, I O states | state i o next     length 5 + 4 times the rows
  *
  * The counts differ from each other where rows are tested, so that no count can stand for another. */
-#include "checks.h"
+#include "cases.h"
 
 static const struct small specifications[] = {
     /* 0 */

@@ -1,5 +1,5 @@
 /* Next tables of controllers: "next states at place state·U·V + u·V + v, 65535 where absent, then zeros up to 8,192". */
-#include "checks.h"
+#include "cases.h"
 
 #include <stdio.h>
 #include <string.h>

@@ -1,5 +1,5 @@
 /* Writing of controllers, "from a start place in the caller's buffer onwards; all other bytes stay", and both round trips. */
-#include "checks.h"
+#include "cases.h"
 
 #include <stdio.h>
 #include <string.h>

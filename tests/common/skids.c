@@ -1,7 +1,9 @@
 /* Records built from rows. */
 #include "skids.h"
 
+#include <stdio.h>
 #include <stdlib.h>
+#include <string.h>
 
 void add_byte(struct record *r, unsigned byte) {
     need(r->size < MOST_BYTES, "too many bytes in a record");
@@ -90,21 +92,16 @@ void from_rows(struct record *r, enum kind kind, const char *text) {
     }
 }
 
-void input_from_rows(struct input *in, const char *context, const char *specification, const char *controller) {
-    from_rows(&in->context, CONTEXT, context);
-    from_rows(&in->specification, SPECIFICATION, specification);
-    from_rows(&in->controller, CONTROLLER, controller);
+void same_record(const char *what, const struct record *r, const char *text) {
+    static uint8_t bytes[MOST_BYTES];
+    size_t size = from_text(text, bytes);
+    same(what, r->size, size);
+    same(what, r->size == size && memcmp(r->bytes, bytes, size) == 0, 1);
 }
 
-void k1_rings(struct input *in, unsigned a_states, unsigned c_states, unsigned s_states, int by_every_row) {
-    begin_context(&in->context, 2, 2, 2, 2, a_states);
-    for (unsigned a = 0; a < a_states; a++)
-        for (unsigned i = 0; i < 2; i++)
-            for (unsigned v = 0; v < 2; v++) context_row(&in->context, a, i, v, i, v, (a + 1) % a_states);
-    begin_specification(&in->specification, 2, 2, c_states);
-    for (unsigned c = 0; c < c_states; c++)
-        for (unsigned i = 0; i < 2; i++) specification_row(&in->specification, c, i, i, (c + (by_every_row ? 1 : i)) % c_states);
-    begin_controller(&in->controller, 2, 2, s_states);
-    for (unsigned s = 0; s < s_states; s++)
-        for (unsigned u = 0; u < 2; u++) controller_row(&in->controller, s, u, u, (s + 1) % s_states);
+void show_record(const char *name, const struct record *r) {
+    size_t shown = r->size <= 2100 ? r->size : 60;
+    printf("    %s (%zu bytes):", name, r->size);
+    for (size_t k = 0; k < shown; k++) printf(" %02X", r->bytes[k]);
+    printf(shown < r->size ? " ..\n" : "\n");
 }

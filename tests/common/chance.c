@@ -19,7 +19,7 @@ unsigned below(unsigned count) { return (unsigned)((draw() >> 33) % count); }
 
 int chance(unsigned percent) { return below(100) < percent; }
 
-static unsigned one_of(const unsigned *list, unsigned count) { return list[below(count)]; }
+unsigned one_of(const unsigned *list, unsigned count) { return list[below(count)]; }
 
 static void random_context(struct record *r, unsigned i, unsigned o, unsigned u, unsigned v, unsigned states) {
     static const unsigned full[] = {2, 8, 20, 50, 100};
@@ -41,27 +41,13 @@ static void random_specification(struct record *r, unsigned i, unsigned o, unsig
         if (chance(percent) && rows++ < 1024) specification_row(r, x / (i * o), x / o % i, x % o, below(states));
 }
 
-static void random_controller(struct record *r, unsigned u, unsigned v, unsigned states) {
-    static const unsigned full[] = {0, 20, 50, 90};
-    unsigned percent = one_of(full, 4);
-    int each_u = chance(85); /* a row at least for each state and u */
-    begin_controller(r, u, v, states);
-    for (unsigned x = 0; x < states * u; x++) {
-        unsigned sure = each_u ? below(v) : v;
-        for (unsigned y = 0; y < v; y++)
-            if (y == sure || chance(percent)) controller_row(r, x / u, x % u, y, below(states));
-    }
-}
+unsigned perhaps(unsigned count, unsigned most) { return chance(2) ? below(most) + 1 : count; }
 
-/* Another count now and then. */
-static unsigned perhaps(unsigned count, unsigned most) { return chance(2) ? below(most) + 1 : count; }
-
-void random_input(struct input *in, struct most most) {
+void random_skid(struct record *context, struct record *specification, struct most most) {
     unsigned i = below(most.i) + 1, o = below(most.o) + 1, u = below(most.u) + 1, v = below(most.v) + 1;
-    unsigned a = below(most.a) + 1, c = below(most.c) + 1, s = below(most.s) + 1;
+    unsigned a = below(most.a) + 1, c = below(most.c) + 1;
     while (a * c > 64) a = below(most.a) + 1, c = below(most.c) + 1;
     if (chance(2)) a = below(64) + 1, c = below(64) + 1;
-    random_context(&in->context, i, o, u, v, a);
-    random_specification(&in->specification, perhaps(i, most.i), perhaps(o, most.o), c);
-    random_controller(&in->controller, perhaps(u, most.u), perhaps(v, most.v), s);
+    random_context(context, i, o, u, v, a);
+    random_specification(specification, perhaps(i, most.i), perhaps(o, most.o), c);
 }

@@ -1,4 +1,4 @@
-/* Records built from rows, and the three records that a check takes. */
+/* Records built from rows. */
 #ifndef SKIDS_H
 #define SKIDS_H
 
@@ -23,19 +23,10 @@ void set_length(struct record *r);
 /* The record of a text such as "2 2 1 | 0 0 0 0 | 0 1 1 0": the counts, then the rows, in decimal numbers as document 01 orders them. */
 void from_rows(struct record *r, enum kind kind, const char *text);
 
-/* What a check takes. */
-struct input {
-    struct record context, specification, controller;
-};
-void input_from_rows(struct input *in, const char *context, const char *specification, const char *controller);
+/* Two comparisons: the record has the bytes of this text, which is one of from_text. */
+void same_record(const char *what, const struct record *r, const char *text);
 
-/* K1 of document 01, and its answer. */
-#define K1_CONTEXT "2 2 2 2 1 | 0 0 0 0 0 0 | 0 0 1 0 1 0 | 0 1 0 1 0 0 | 0 1 1 1 1 0"
-#define K1_SPECIFICATION "2 2 1 | 0 0 0 0 | 0 1 1 0"
-#define K1_ANSWER "2 2 1 | 0 0 0 0 | 0 1 1 0"
-
-/* K1 and its answer as rings of so many context, specification and controller states. Context and controller go on by every row; the specification goes
- * on by every row, or by i=1 alone. */
-void k1_rings(struct input *in, unsigned a_states, unsigned c_states, unsigned s_states, int by_every_row);
+/* Print a record in bytes; of a long one only the front, for the case's name says how it is built. */
+void show_record(const char *name, const struct record *r);
 
 #endif

@@ -1,0 +1,17 @@
+/* Runs the plain answer from C. What is expected was written by hand from document 01, or comes from the reference. */
+#include "cases.h"
+
+int main(void) {
+    test_known();   /* the skids of document 01 */
+    test_counts();  /* 8, 9 and 10: every pair of counts */
+    test_order();   /* which refusal is given where several would fit */
+    test_steps();   /* single steps: what is reached, absent, empty, and its number */
+    test_chains();  /* tables of many sizes that a formula tells */
+    test_subsets(); /* 511, 512 and 513 sets, and many others */
+    test_limits();  /* the largest tables */
+    test_words();   /* the answer as a set of words */
+    test_random();  /* random skids */
+    test_damaged(); /* records with a byte changed, cut or lengthened */
+    print_counts();
+    return failures() != 0;
+}
