@@ -64,8 +64,8 @@ row-found-determined b a i v u o r s = determined
 pub rows-indexed-determined : (b : List ℕ) (states : ℕ) (index r s : List ℕ) → RowsIndexed b states index r → RowsIndexed b states index s → r ≡ s
 rows-indexed-determined b states index r s = determined
 
-pub sets-zeroed-determined : (sets : List ℕ) (from : ℕ) (r s : List ℕ) → SetsZeroed sets from r → SetsZeroed sets from s → r ≡ s
-sets-zeroed-determined sets from r s = determined
+pub sets-zeroed-determined : (sets : List ℕ) (n : ℕ) (r s : List ℕ) → SetsZeroed sets n r → SetsZeroed sets n s → r ≡ s
+sets-zeroed-determined sets n r s = determined
 
 pub next-zeroed-determined : (next : List ℕ) (from : ℕ) (r s : List ℕ) → NextZeroed next from r → NextZeroed next from s → r ≡ s
 next-zeroed-determined next from r s = determined

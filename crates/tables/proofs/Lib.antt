@@ -1,3 +1,4 @@
+pub mod ZeroLaws
 pub mod StepLaws
 pub mod FirstRowLaws
 pub mod IndexLaws
