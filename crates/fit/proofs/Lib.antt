@@ -18,8 +18,6 @@ pub mod Incomplete
 pub mod GrowLaws
 pub mod ReachLaws
 pub mod LackLaws
-pub mod LeadLaws
-pub mod ContinuesLaws
 pub mod QuestionLaws
 pub mod MemberLaws
 pub mod AskedLaws

@@ -10,7 +10,6 @@ pub mod checking; // the check of three records
 mod complete; // incomplete: a state that the controller reaches has no row for some u
 mod judging; // what the triples are asked
 pub mod panel; // the entries for C
-mod rows; // rows of the context as steps of the controller
 mod sets; // the sets of all controller states
 mod triples; // the triples, grown by sweeps
 mod verdict; // the core: the verdict, of a skid and a next table

@@ -3,8 +3,8 @@
 use mathlib.Core.Path.{_≡_, refl, sym, ap, subst, _∙_}
 use mathlib.Core.Logic.{⊎-elim}
 use mathlib.Core.Bool.{Bool, true, false}
-use mathlib.Core.Option.{none, some, Option·none-ne-some, Option·some-injective}
-use mathlib.Core.List.{List, [], List·Memᴰ}
+use mathlib.Core.Option.{Option, none, some, Option·none-ne-some, Option·some-injective}
+use mathlib.Core.List.{List, [], map, List·Memᴰ, Memᴰ·of-map}
 use Prim.Native.Nat.{ℕ, _<_}
 use native.Mathlib.Omega.{arith}
 use lib.Dec.{T, ltb, eqb, eqb→eq, eqb-refl}
@@ -17,6 +17,7 @@ use Rattle.rules.specs.Limits.{absent}
 use Rattle.rules.specs.NextTables.{there, isPresent}
 use Rattle.rules.specs.Tables.{Skid, rowState, rowI, rowV, rowU, rowO, rowNext, hasKey, rowNumber, contextNext, specNext}
 use Rattle.rules.specs.Meaning.{NextTable, Keyed, Legal, system}
+use Rattle.rules.proofs.Numbering.{Each}
 
 key-yes : (a i v u o : ℕ) (r : List ℕ) → T (hasKey a i v u o r) → Keyed a i v u o r
 key-yes a i v u o r t =
@@ -89,6 +90,14 @@ entry-below states next table p j e = ⊎-elim
     (λ a. absurd (Option·none-ne-some j (sym (ap there a) ∙ e)))
     (λ h. subst (λ n. n < states) (there-has (getD next p absent) j e .1) h)
     (table .entry p)
+
+-- so each step of a state leads to a state of the table; `place t`: where the step t stands
+pub steps-below : (states : ℕ) (next : List ℕ) → NextTable states next → (place : ℕ → ℕ) (ts : List ℕ) (o : Option ℕ)
+    → List·Memᴰ o (map (λ t. there (getD next (place t) absent)) ts) → Each (λ j. j < states) o
+steps-below states next table place ts none m = tt
+steps-below states next table place ts (some j) m =
+    let (t, _, e) = Memᴰ·of-map (λ t. there (getD next (place t) absent)) ts m in
+    entry-below states next table (place t) j e
 
 module _ (k : Skid) (legal : Legal k) where
   -- a row of the context is a step of it

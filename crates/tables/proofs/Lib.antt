@@ -10,6 +10,9 @@ pub mod ReadingLaws
 pub mod SkidReadLaws
 pub mod SkidLaws
 pub mod SpecificationLaws
+pub mod ReplyLaws
+pub mod ContinueLaws
+pub mod UsableLaws
 pub mod Determined
 pub mod RowLaws
 pub mod RowFoldLaws

@@ -1,3 +1,4 @@
 pub mod Inside
 pub mod Skids
 pub mod Steps
+pub mod Usable

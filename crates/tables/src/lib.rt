@@ -3,6 +3,7 @@
 pub mod rows; // rows of the context: the specification's step by a row, and which rows a state has
 pub mod skids; // the two records of a skid, and their counts side by side
 pub mod steps; // a next table, by state and letter
+pub mod usable; // what each state of a next table is asked: a row for each u, a continuation for each i
 pub mod zeros; // zeros behind what was written
 
 // The largest specification: 64 states, 8 i and 8 o.

@@ -5,7 +5,7 @@ use mathlib.Core.Path.{_≡_, refl, sym, ap, subst, _∙_}
 use mathlib.Core.Logic.{_↔_, ∥∥₁-elim}
 use mathlib.Core.HLevel.{⊥-prop}
 use mathlib.Core.Bool.{Bool, false}
-use mathlib.Core.Option.{Option, none, some, IsSome, Option·some-injective}
+use mathlib.Core.Option.{Option, some, IsSome, Option·some-injective}
 use mathlib.Core.List.{List, [], _∷_, _++_, map, List·Memᴰ, Memᴰ·cast, Memᴰ·map, Memᴰ·of-map}
 use Prim.Native.Nat.{ℕ, _+_, _*_, _<_}
 use lib.Dec.{T, T-not, not-T}
@@ -27,7 +27,7 @@ use Rattle.rules.specs.Meaning.{NextTable, system, letterOf, tableStep}
 use Rattle.rules.proofs.Numbering.{Each}
 use Rattle.rules.proofs.Discover.{never-over}
 use Rattle.rules.proofs.Reached.{only-reached, all-reached}
-use Rattle.rules.proofs.Rows.{has-there, there-has, entry-below}
+use Rattle.rules.proofs.Rows.{has-there, there-has, steps-below}
 use Rattle.rules.proofs.Letters.{letter-listed, letter-at}
 use Rattle.verdicts.specs.Triples.{has}
 use Rattle.verdicts.specs.Verdict.{ownStates, incomplete}
@@ -68,10 +68,7 @@ module _ (k : Skid) (asked : ℕ → ℕ → Bool) (states : ℕ) (next : List �
 
   module _ (table : NextTable states next) where
     in-table : (x : ℕ) → x < states → (o : Option ℕ) → List·Memᴰ o (out x) → Each (λ d. d < states) o
-    in-table x h none m = tt
-    in-table x h (some d) m =
-        let (t, _, e) = Memᴰ·of-map (λ t. there (nextAt k next x t)) (letters k) m in
-        entry-below states next table (x * (k .nU * k .nV) + t) d e
+    in-table x h = steps-below states next table (λ t. x * (k .nU * k .nV) + t) (letters k)
 
     -- the table's states are below their count, so never one too many
     not-over : discover states out 0 .over ≡ false
