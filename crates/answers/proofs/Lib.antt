@@ -6,3 +6,5 @@ pub mod Rounds
 pub mod Order
 pub mod Skids
 pub mod Determined
+pub mod Unblocked
+pub mod Afresh
