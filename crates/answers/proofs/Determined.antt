@@ -6,10 +6,9 @@ use Prim.Native.Nat.{ℕ}
 use Rattle.pairs.proofs.Determined.{determined}
 use Rattle.rules.specs.declared.Reply.{Reply}
 use Rattle.answers.specs.declared.Wanted.{Wanted}
-use Rattle.answers.specs.declared.Wanted.the-variants.{Plain}
 use Rattle.answers.specs.declared.Mode.{Mode}
 use Rattle.answers.specs.declared.Answer.{Answer}
-use Rattle.answers.specs.Solve.{ModeOf, AnswerReplied, SolveOutcome, solveFor, solve, Gives, Solved, SolvedFor, SolvedPlain}
+use Rattle.answers.specs.Solve.{ModeOf, AnswerReplied, SolveOutcome, solveFor, solve, Gives, Solved, SolvedFor}
 
 pub mode-determined : (number : ℕ) (m n : Mode) → ModeOf number m → ModeOf number n → m ≡ n
 mode-determined number m n = determined
@@ -27,7 +26,3 @@ solved-determined mode context specification sets next = given-determined (solve
 pub solved-for-determined : (w : Wanted) (context specification sets next : List ℕ) (r s : Reply) (a b n m : List ℕ)
     → SolvedFor w context specification sets next r a n → SolvedFor w context specification sets next s b m → (r ≡ s) × (a ≡ b) × (n ≡ m)
 solved-for-determined w context specification sets next = given-determined (solveFor context specification sets next w)
-
-pub solved-plain-determined : (context specification sets next : List ℕ) (r s : Reply) (a b n m : List ℕ)
-    → SolvedPlain context specification sets next r a n → SolvedPlain context specification sets next s b m → (r ≡ s) × (a ≡ b) × (n ≡ m)
-solved-plain-determined = solved-for-determined Plain

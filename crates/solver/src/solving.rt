@@ -1,15 +1,18 @@
-// The plain answer of two records: they are read, refused or matched, and solved.
+// The answer of two records, by mode or by name: they are read, refused or matched, and solved.
 ghost use mathlib.Core.Path.{_≡_};
 ghost use Rattle.rules.specs.Tables.{specificationTable};
-ghost use Rattle.answers.specs.declared.Wanted.the-variants.{Plain};
-ghost use Rattle.answers.specs.Solve.{solution, SolvedPlain};
-ghost use Rattle.tables.specs.Inside.{skidIn, Workable};
+ghost use Rattle.answers.specs.Solve.{solution, Solved, SolvedFor};
+ghost use Rattle.tables.specs.Inside.{skidIn, Workable, Indexed};
 ghost use Rattle.tables.specs.Skids.{SkidRead};
 ghost use Rattle.solver.specs.Inside.{Long, Answered};
 ghost use Rattle.solver.specs.Matched.{matchRefusal, Matched};
 use super::answer_reply;
 use super::discovery::plain;
+use super::unblocked::unblocked;
 use answers::Answer;
+use answers::Mode;
+use answers::Wanted;
+use answers::mode_of;
 use pairs::PAIR_LIMIT;
 use records::tables::fill_specification;
 use rules::Counts;
@@ -48,8 +51,29 @@ fn match_refusal(c: Counts, s: Counts, sets: usize, next: usize) -> Reply
     succeeded(0, 0)
 }
 
-// The answer of a context's record and a specification's next table: the rows of each context state are found first.
+// The answer that is wanted.
+fn solve_wanted(
+    wanted: Wanted,
+    context: &[u8],
+    index: &[usize],
+    specification: &[u16],
+    sizes: Sizes,
+    sets: &mut [u64],
+    next: &mut [u16],
+) -> Answer
+    requires { ⌜ Workable sizes (now context) (now specification) × Indexed (now context) (sizes .contexts) (now index) × Long (now sets) (now next) ⌝ }
+    ensures { λ r. ⌜ Answered (solution wanted (skidIn sizes (now (context .entry)) (now (specification .entry)))) r
+        (now (sets .exit)) (now (next .exit)) (now (sets .entry)) (now (next .entry)) ⌝ }
+{
+    match wanted {
+        Wanted::Plain => plain(context, index, specification, sizes, sets, next),
+        Wanted::Unblocked => unblocked(context, index, specification, sizes, sets, next),
+    }
+}
+
+// The same of a context's record and a specification's next table: the rows of each context state are found first.
 fn solve_tables(
+    wanted: Wanted,
     context: &[u8],
     specification: &[u16],
     sizes: Sizes,
@@ -57,16 +81,17 @@ fn solve_tables(
     next: &mut [u16],
 ) -> Answer
     requires { ⌜ Workable sizes (now context) (now specification) × Long (now sets) (now next) ⌝ }
-    ensures { λ r. ⌜ Answered (solution Plain (skidIn sizes (now (context .entry)) (now (specification .entry)))) r
+    ensures { λ r. ⌜ Answered (solution wanted (skidIn sizes (now (context .entry)) (now (specification .entry)))) r
         (now (sets .exit)) (now (next .exit)) (now (sets .entry)) (now (next .entry)) ⌝ }
 {
     let mut index = [0usize; INDEX];
     index_rows(context, sizes.contexts as u32, &mut index);
-    plain(context, &index, specification, sizes, sets, next)
+    solve_wanted(wanted, context, &index, specification, sizes, sets, next)
 }
 
 // The same of two records that match: the specification becomes a next table.
 fn solve_matched(
+    wanted: Wanted,
     context: &[u8],
     specification: &[u8],
     sizes: Sizes,
@@ -74,17 +99,18 @@ fn solve_matched(
     next: &mut [u16],
 ) -> Answer
     requires { ⌜ Matched sizes (now context) (now specification) (now sets) (now next) ⌝ }
-    ensures { λ r. ⌜ Answered (solution Plain (skidIn sizes (now (context .entry)) (specificationTable (now (specification .entry))))) r
+    ensures { λ r. ⌜ Answered (solution wanted (skidIn sizes (now (context .entry)) (specificationTable (now (specification .entry))))) r
         (now (sets .exit)) (now (next .exit)) (now (sets .entry)) (now (next .entry)) ⌝ }
 {
     let mut table = [0u16; SPECIFICATION_NUMBERS];
     fill_specification(specification, &mut table);
     let size = sizes.specifications as usize * sizes.steps;
-    solve_tables(context, &table[..size], sizes, sets, next)
+    solve_tables(wanted, context, &table[..size], sizes, sets, next)
 }
 
-// The plain answer of two records that were read, with these counts.
+// The answer of two records that were read, with these counts.
 fn solve_read(
+    wanted: Wanted,
     context: &[u8],
     specification: &[u8],
     c: Counts,
@@ -93,7 +119,7 @@ fn solve_read(
     next: &mut [u16],
 ) -> Reply
     requires { ⌜ SkidRead (now context) (now specification) c s ⌝ }
-    ensures { λ r. ⌜ SolvedPlain (now (context .entry)) (now (specification .entry)) (now (sets .entry)) (now (next .entry)) r
+    ensures { λ r. ⌜ SolvedFor wanted (now (context .entry)) (now (specification .entry)) (now (sets .entry)) (now (next .entry)) r
         (now (sets .exit)) (now (next .exit)) ⌝ }
 {
     let found = match_refusal(c, s, sets.len(), next.len());
@@ -101,18 +127,19 @@ fn solve_read(
         return found;
     }
     let sizes = sizes_of(c, s, STATE_LIMIT as usize);
-    let answer = solve_matched(context, specification, sizes, sets, next);
+    let answer = solve_matched(wanted, context, specification, sizes, sets, next);
     answer_reply(answer)
 }
 
-// The plain answer of two records. Numbers are written where the reply is 0 or 11, else none.
-pub fn solve_plain(
+// The answer of two records. Numbers are written where the reply is 0, 11 or 12, else none.
+pub fn solve_for(
+    wanted: Wanted,
     context: &[u8],
     specification: &[u8],
     sets: &mut [u64],
     next: &mut [u16],
 ) -> Reply
-    ensures { λ r. ⌜ SolvedPlain (now (context .entry)) (now (specification .entry)) (now (sets .entry)) (now (next .entry)) r
+    ensures { λ r. ⌜ SolvedFor wanted (now (context .entry)) (now (specification .entry)) (now (sets .entry)) (now (next .entry)) r
         (now (sets .exit)) (now (next .exit)) ⌝ }
 {
     let read = read_skid(context, specification);
@@ -121,6 +148,7 @@ pub fn solve_plain(
         return reply;
     }
     solve_read(
+        wanted,
         context,
         specification,
         read.context,
@@ -128,4 +156,21 @@ pub fn solve_plain(
         sets,
         next,
     )
+}
+
+// The answer that a mode asks for, of two records. An unknown mode is refused before the records are looked at.
+pub fn solve(
+    mode: u32,
+    context: &[u8],
+    specification: &[u8],
+    sets: &mut [u64],
+    next: &mut [u16],
+) -> Reply
+    ensures { λ r. ⌜ Solved mode (now (context .entry)) (now (specification .entry)) (now (sets .entry)) (now (next .entry)) r
+        (now (sets .exit)) (now (next .exit)) ⌝ }
+{
+    match mode_of(mode) {
+        Mode::Known(wanted) => solve_for(wanted, context, specification, sets, next),
+        Mode::Unknown => refused(13, 0),
+    }
 }

@@ -14,11 +14,11 @@ slice-aggregate-index-rows c = search needs
 index-rows-requires : tie.Need-index-rows-requires
 index-rows-requires c κs = search needs
 
-slice-aggregate-plain : tie.Need-slice-aggregate-plain
-slice-aggregate-plain c = search needs
+slice-aggregate-solve-wanted : tie.Need-slice-aggregate-solve-wanted
+slice-aggregate-solve-wanted c = search needs
 
-plain-requires : tie.Need-plain-requires
-plain-requires c κs = (search needs, search index-lent, search needs)
+solve-wanted-requires : tie.Need-solve-wanted-requires
+solve-wanted-requires c κs = (search needs, search index-lent, search needs)
 
 same-length : tie.Need-same-length
 same-length c = search needs
@@ -36,8 +36,8 @@ solve-tables-spec =
     cast-index-rows
     slice-aggregate-index-rows
     index-rows-requires
-    slice-aggregate-plain
-    plain-requires
+    slice-aggregate-solve-wanted
+    solve-wanted-requires
     same-length
     same-length-2
     returns)
