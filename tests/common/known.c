@@ -1,5 +1,13 @@
-/* Skids of document 01 that have many states. */
+/* Skids of document 01: the list of the small ones, and those that have many states. */
 #include "known.h"
+
+const struct known_skid known_skids[] = {
+    {"K1", K1_CONTEXT, K1_SPECIFICATION}, {"K2", K2_CONTEXT, FREE_2},           {"K3", K3_CONTEXT, K3_SPECIFICATION},
+    {"K4", K4_CONTEXT, FREE_1},           {"K5", K5_CONTEXT, FREE_2},           {"K6", K6_CONTEXT, FREE_2},
+    {"K7", K7_CONTEXT, K7_SPECIFICATION}, {"K8", K8_CONTEXT, K3_SPECIFICATION}, {"K9", K9_CONTEXT, K9_SPECIFICATION},
+    {"K10", K10_CONTEXT, FREE_1},
+};
+const size_t known_skids_count = sizeof known_skids / sizeof known_skids[0];
 
 void k1_rings(struct record *context, struct record *specification, unsigned a_states, unsigned c_states, int by_every_row) {
     begin_context(context, 2, 2, 2, 2, a_states);

@@ -43,6 +43,13 @@
 
 #define K10_CONTEXT "1 1 1 1 1"
 
+/* K1 to K10. */
+struct known_skid {
+    const char *name, *context, *specification;
+};
+extern const struct known_skid known_skids[];
+extern const size_t known_skids_count;
+
 /* K1 of document 01 as rings of so many context and specification states. The context goes on by every row; the specification goes on by
  * every row, or by i=1 alone. */
 void k1_rings(struct record *context, struct record *specification, unsigned a_states, unsigned c_states, int by_every_row);

@@ -1,5 +1,5 @@
 /* Skids of many sizes whose sets and steps are told by a formula: tables that go round, sets that grow up to all 64 pairs, and steps of every U and
- * V. */
+ * V. In those that go round every i has a step that is present, and every u a v: nothing is deleted. */
 #include "cases.h"
 #include "known.h"
 
@@ -24,7 +24,7 @@ static uint64_t block(unsigned from, unsigned to, unsigned most, unsigned c_stat
 /* One letter, and the states in a row: each leads to the next one, the last one to `back`. */
 static void chain_case(const char *name, unsigned states, unsigned back) {
     for (unsigned n = 0; n < states; n++) table.next[n] = (uint16_t)(n + 1 < states ? n + 1 : back);
-    solve_once(name, &skid, reply(0, 0, 0, states), &table);
+    same_once(name, &skid, states, &table);
 }
 
 /* One letter, I = 2: the context goes round by each i, the specification by i=1. After n steps the context is at n, and the specification anywhere up
@@ -69,14 +69,15 @@ static void ring_case(unsigned a_states, unsigned c_states) {
         table.next[4 * n] = table.next[4 * n + 3] = (uint16_t)((n + 1) % states);
         table.next[4 * n + 1] = table.next[4 * n + 2] = ABSENT;
     }
-    solve_once(name, &skid, reply(0, 0, 0, states), &table);
+    same_once(name, &skid, states, &table);
     snprintf(name, sizeof name, "rings of %u and %u states, the second by i=1", a_states, c_states);
     k1_rings(&skid.context, &skid.specification, a_states, c_states, 0);
     states_case(name, &skid, a_states * c_states);
 }
 
 /* Every letter (u, v) leads from the start to a context state of its own, which has no rows: the states are found in the order of the letters,
- * u before v, and the empty set after them. The specification goes from 0 to 1. */
+ * u before v, and the empty set after them. The specification goes from 0 to 1. Unblocked, the states without rows fall in the first round, and the
+ * start in the second; the empty set stays and is no answer. */
 static void letters_case(unsigned u, unsigned v) {
     unsigned letters = u * v;
     char name[100];
@@ -90,7 +91,8 @@ static void letters_case(unsigned u, unsigned v) {
     for (unsigned n = 1; n <= letters; n++) table.sets[n] = pair(n, 1, 2);
     for (unsigned k = 0; k < letters; k++) table.next[k] = (uint16_t)(1 + k);
     for (unsigned k = letters; k < (letters + 2) * letters; k++) table.next[k] = (uint16_t)(1 + letters);
-    solve_case(name, &skid, reply(0, 0, 0, letters + 2), &table);
+    solve_case(name, PLAIN, &skid, reply(0, 0, 0, letters + 2), &table);
+    none_case(name, &skid, 2);
 }
 
 void test_chains(void) {

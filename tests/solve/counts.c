@@ -8,8 +8,10 @@
 
 static struct skid skid;
 static struct table table;
+static const struct table zeros;
 
-/* A skid of these counts without rows: by every step the start leads to the empty set, which stays. */
+/* A skid of these counts without rows: by every step the start leads to the empty set, which stays. Unblocked there is none, after one round: the
+ * start has no row for any i. */
 static void begin_skid(unsigned i, unsigned o, unsigned u, unsigned v, unsigned a, unsigned c) {
     begin_context(&skid.context, i, o, u, v, a);
     begin_specification(&skid.specification, i, o, c);
@@ -20,17 +22,20 @@ static void begin_skid(unsigned i, unsigned o, unsigned u, unsigned v, unsigned 
 
 /* Solve with exactly 512 and 8,192 numbers. 0 stands for "nothing is wrong with the counts". */
 static void counts_case(const char *name, uint32_t number, uint32_t record) {
-    if (number == 0)
-        solve_lent(name, &skid, (struct lent){512, 8192}, reply(0, 0, 0, 2), &table);
-    else
-        solve_lent(name, &skid, (struct lent){512, 8192}, reply(number, record, 0, 0), NULL);
+    static const struct lent lent = {512, 8192};
+    if (number == 0) {
+        solve_lent(name, PLAIN, &skid, lent, reply(0, 0, 0, 2), &table);
+        solve_lent(name, UNBLOCKED, &skid, lent, none(1), &zeros);
+    } else
+        for (uint32_t mode = PLAIN; mode < MODES; mode++) solve_lent(name, mode, &skid, lent, reply(number, record, 0, 0), NULL);
 }
 
 /* The same, compared with the reference too, and with every count of lent numbers. */
 static void closer_case(const char *name, uint32_t number, uint32_t record) {
-    if (number == 0)
-        solve_case(name, &skid, reply(0, 0, 0, 2), &table);
-    else
+    if (number == 0) {
+        solve_case(name, PLAIN, &skid, reply(0, 0, 0, 2), &table);
+        none_case(name, &skid, 1);
+    } else
         refusal_case(name, &skid, number, record, 0);
 }
 
@@ -60,17 +65,18 @@ static void test_letters(void) {
         unsigned u = k / 4 + 1, v = k % 4 + 1;
         snprintf(name, sizeof name, "U %u, V %u, no rows", u, v);
         begin_skid(2, 3, u, v, 1, 1);
-        solve_case(name, &skid, reply(0, 0, 0, 2), &table);
+        closer_case(name, 0, 0);
     }
 }
 
 /* Every count of lent numbers that is too small, beside enough of the other kind; and every count that is enough. */
-static void test_lent(void) {
+static void test_lent(uint32_t mode, struct mortarleaf_reply wanted, const struct table *written) {
+    struct mortarleaf_reply few = reply(10, 0, 0, 0);
     begin_skid(1, 1, 1, 1, 1, 1);
-    for (size_t sets = 0; sets < 512 && !hopeless(); sets++) solve_lent("no rows", &skid, (struct lent){sets, 8192}, reply(10, 0, 0, 0), NULL);
-    for (size_t next = 0; next < 8192 && !hopeless(); next++) solve_lent("no rows", &skid, (struct lent){512, next}, reply(10, 0, 0, 0), NULL);
-    for (size_t sets = 512; sets <= 700; sets++) solve_lent("no rows", &skid, (struct lent){sets, 8192}, reply(0, 0, 0, 2), &table);
-    for (size_t next = 8192; next <= 8300; next++) solve_lent("no rows", &skid, (struct lent){512, next}, reply(0, 0, 0, 2), &table);
+    for (size_t sets = 0; sets < 512 && !hopeless(); sets++) solve_lent("no rows", mode, &skid, (struct lent){sets, 8192}, few, NULL);
+    for (size_t next = 0; next < 8192 && !hopeless(); next++) solve_lent("no rows", mode, &skid, (struct lent){512, next}, few, NULL);
+    for (size_t sets = 512; sets <= 700; sets++) solve_lent("no rows", mode, &skid, (struct lent){sets, 8192}, wanted, written);
+    for (size_t next = 8192; next <= 8300; next++) solve_lent("no rows", mode, &skid, (struct lent){512, next}, wanted, written);
 }
 
 void test_counts(void) {
@@ -79,5 +85,6 @@ void test_counts(void) {
     test_letters();
     each_product(begin_skid, counts_case);
     edge_products(begin_skid, closer_case);
-    test_lent();
+    test_lent(PLAIN, reply(0, 0, 0, 2), &table);
+    test_lent(UNBLOCKED, none(1), &zeros);
 }

@@ -5,16 +5,17 @@
 #include "known.h"
 
 static struct skid skid;
-static struct table table;
+static struct outcome wanted[MODES];
 
 static const struct damaged records[] = {{"context", &skid.context}, {"specification", &skid.specification}};
 
-/* How often each reply was wanted. */
+/* How often each reply was wanted in unblocked mode. */
 static unsigned long counts[17];
 
 static void damaged_case(const char *name) {
     struct lent lent = {chance(5) ? below(512) : 512 + below(20), chance(5) ? below(8192) : 8192 + below(20)};
-    counts[compared_case(name, &skid, lent, &table).number]++;
+    compared_both(name, &skid, lent, wanted);
+    counts[wanted[UNBLOCKED].reply.number]++;
 }
 
 static void draw(void) { random_skid(&skid.context, &skid.specification, (struct most){3, 3, 3, 3, 3, 3, 0}); }
@@ -27,4 +28,5 @@ void test_damaged(void) {
     if (hopeless()) return;
     begin_case("the test itself", "damaged records");
     for (uint32_t number = 0; number <= 10; number++) wanted_often(counts, number, 20);
+    wanted_often(counts, 12, 20);
 }
