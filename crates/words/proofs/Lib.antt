@@ -1,9 +1,11 @@
 pub mod Words
 pub mod Largest
 pub mod Subset
+pub mod States
 pub mod Count
 pub mod Deletion
 pub mod Rounds
+pub mod Kept
 pub mod Renamed
 pub mod Answer
 pub mod Fit

@@ -1,7 +1,9 @@
 pub mod Words
 pub mod System
 pub mod Sets
+pub mod States
 pub mod Deletion
+pub mod Kept
 pub mod Renamed
 pub mod Fit
 pub mod Faulty
