@@ -8,3 +8,4 @@ pub mod Skids
 pub mod Determined
 pub mod Unblocked
 pub mod Afresh
+pub mod Small

@@ -18,6 +18,9 @@ pub mod Scanning
 pub mod Reached
 pub mod Discovered
 pub mod OrderDetermined
+pub mod ReachedWords
+pub mod DiscoveryTable
+pub mod ReadInOrder
 pub mod Refusals
 pub mod Lent
 pub mod WrittenAgain

@@ -18,7 +18,7 @@ use Rattle.rules.proofs.Discover.{below-or-not}
 
 module _ (out : ℕ → List (Option ℕ)) (start : ℕ) where
   -- what is met by the steps of the states xs
-  abbrev met : List ℕ → List ℕ
+  abbrev pub met : List ℕ → List ℕ
   met xs = firsts (start ∷ targets (flatMap out xs))
 
   -- the states behind any front only add to what the front meets
@@ -64,7 +64,7 @@ module _ (out : ℕ → List (Option ℕ)) (start : ℕ) where
       ap (take (suc n)) (first ∙ e) ∙ take-append-le (suc n) (met (take n xs)) zs long
       ∙ sym (ap (take (suc n)) (first′ ∙ e′ ∙ ap (λ l. met l ++ zs′) (sym same)) ∙ take-append-le (suc n) (met (take n xs)) zs′ long)
 
-  same-states : (xs ys : List ℕ) → Different (Reaches out start) xs → Different (Reaches out start) ys → xs ≡ met xs → ys ≡ met ys → xs ≡ ys
+  pub same-states : (xs ys : List ℕ) → Different (Reaches out start) xs → Different (Reaches out start) ys → xs ≡ met xs → ys ≡ met ys → xs ≡ ys
   same-states xs ys different different′ first first′ = ⊎-elim
       (λ h. sym (take-all (length ys) xs (omega arith)) ∙ sym (same-front ys xs different′ first′ first (length ys) (omega arith)) ∙ take-all (length ys) ys (omega arith))
       (λ h. sym (take-all (length xs) xs (omega arith)) ∙ same-front xs ys different first first′ (length xs) (omega arith) ∙ take-all (length xs) ys h)

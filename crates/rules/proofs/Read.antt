@@ -33,7 +33,7 @@ four (a ∷ b ∷ c ∷ []) e = absurd (omega arith)
 four (a ∷ b ∷ c ∷ d ∷ []) e = refl
 four (a ∷ b ∷ c ∷ d ∷ f ∷ r) e = absurd (omega arith)
 
-six : (r : List ℕ) → length r ≡ 6 → r ≡ getD r 0 0 ∷ getD r 1 0 ∷ getD r 2 0 ∷ getD r 3 0 ∷ getD r 4 0 ∷ getD r 5 0 ∷ []
+pub six : (r : List ℕ) → length r ≡ 6 → r ≡ getD r 0 0 ∷ getD r 1 0 ∷ getD r 2 0 ∷ getD r 3 0 ∷ getD r 4 0 ∷ getD r 5 0 ∷ []
 six [] e = absurd (omega arith)
 six (a ∷ []) e = absurd (omega arith)
 six (a ∷ b ∷ r) e = let rest = four r (omega arith) in ap (λ r. a ∷ b ∷ r) rest
@@ -90,26 +90,58 @@ module _ (l : Layout) (fields : length (l .fieldSizes) ≡ 4) (below : l .below 
       leads : there (getD (tableOf m n states (rowsIn l b)) (stepPlace m n s x y) absent) ≡ some j ↔ ((r : List ℕ) × List·Memᴰ r (rowsIn l b) × StepRow s x y j r)
       leads = table-leads m n states (rowsIn l b) (step-rows few) s x y j (rw em at hx) (rw en at hy)
 
+  -- each row is (s, x, y, j) with x and y below counts that agree
+  row-codes : (m′ n′ : ℕ) → m′ ≡ m → n′ ≡ n → (r : List ℕ) → List·Memᴰ r (rowsIn l b)
+      → (getD r 1 0 < m′) × (getD r 2 0 < n′) × (r ≡ getD r 0 0 ∷ getD r 1 0 ∷ getD r 2 0 ∷ getD r 3 0 ∷ [])
+  row-codes m′ n′ em en r mr = (rw em (field r mr 1 (omega arith)), rw en (field r mr 2 (omega arith)), four r (row-length l b e r mr ∙ fields))
+
 -- two counts that agree, and two more
 pub agreeing : (a b c d : ℕ) → (eqb a b && eqb c d) ≡ true → (a ≡ b) × (c ≡ d)
 agreeing a b c d e = let (t, t′) = and-yes (eqb a b) (eqb c d) (subst T (sym e) tt) in (eqb→eq a b t, eqb→eq c d t′)
+
+-- the I and O of a context and a specification that match, the U and V of a context and a controller
+same-outside : (cb sb : List ℕ) → outsideAgree cb sb ≡ true
+    → (getD (countsIn contextLayout cb) 0 0 ≡ getD (countsIn specificationLayout sb) 0 0) × (getD (countsIn contextLayout cb) 1 0 ≡ getD (countsIn specificationLayout sb) 1 0)
+unfolding outsideAgree
+same-outside cb sb agree = agreeing _ _ _ _ agree
+
+same-letters : (cb tb : List ℕ) → lettersAgree cb tb ≡ true
+    → (getD (countsIn contextLayout cb) 2 0 ≡ getD (countsIn controllerLayout tb) 0 0) × (getD (countsIn contextLayout cb) 3 0 ≡ getD (countsIn controllerLayout tb) 1 0)
+unfolding lettersAgree
+same-letters cb tb agree = agreeing _ _ _ _ agree
 
 -- where I and O agree: the specification goes from c by i and o to c′ exactly if its record has the row
 pub specification-row : (cb sb : List ℕ) → fault specificationLayout sb ≡ Sound → outsideAgree cb sb ≡ true
     → (c i o c′ : ℕ) → i < skidOf cb sb .nI → o < skidOf cb sb .nO
     → specNext (skidOf cb sb) c i o ≡ some c′ ↔ List·Memᴰ (c ∷ i ∷ o ∷ c′ ∷ []) (rowsIn specificationLayout sb)
-unfolding skidOf specificationTable specNext outsideAgree specificationLayout
+unfolding skidOf specificationTable specNext specificationLayout
 specification-row cb sb es agree c i o c′ hi ho =
-    let (ei, eo) = agreeing (getD (countsIn contextLayout cb) 0 0) (getD (countsIn specificationLayout sb) 0 0) (getD (countsIn contextLayout cb) 1 0) (getD (countsIn specificationLayout sb) 1 0) agree in
+    let (ei, eo) = same-outside cb sb agree in
     let (low, high) = count-within specificationLayout sb es 2 (omega arith) in
     table-row specificationLayout refl refl refl sb es (omega arith) (getD (countsIn contextLayout cb) 0 0) (getD (countsIn contextLayout cb) 1 0) ei eo c i o c′ hi ho
+
+-- and each of its rows is one of the context's i and o
+pub specification-codes : (cb sb : List ℕ) → fault specificationLayout sb ≡ Sound → outsideAgree cb sb ≡ true → (r : List ℕ) → List·Memᴰ r (rowsIn specificationLayout sb)
+    → (getD r 1 0 < skidOf cb sb .nI) × (getD r 2 0 < skidOf cb sb .nO) × (r ≡ getD r 0 0 ∷ getD r 1 0 ∷ getD r 2 0 ∷ getD r 3 0 ∷ [])
+unfolding skidOf specificationLayout
+specification-codes cb sb es agree =
+    let (ei, eo) = same-outside cb sb agree in
+    row-codes specificationLayout refl refl refl sb es (getD (countsIn contextLayout cb) 0 0) (getD (countsIn contextLayout cb) 1 0) ei eo
 
 -- where U and V agree: the controller goes from s by u and v to s′ exactly if its record has the row
 pub controller-row : (cb sb tb : List ℕ) → fault controllerLayout tb ≡ Sound → lettersAgree cb tb ≡ true
     → (s u v s′ : ℕ) → u < skidOf cb sb .nU → v < skidOf cb sb .nV
     → there (nextAt (skidOf cb sb) (controllerTable tb) s (letterAt (skidOf cb sb) u v)) ≡ some s′ ↔ List·Memᴰ (s ∷ u ∷ v ∷ s′ ∷ []) (rowsIn controllerLayout tb)
-unfolding skidOf controllerTable lettersAgree controllerLayout stateLimit
+unfolding skidOf controllerTable controllerLayout stateLimit
 controller-row cb sb tb et agree s u v s′ hu hv =
-    let (eu, ev) = agreeing (getD (countsIn contextLayout cb) 2 0) (getD (countsIn controllerLayout tb) 0 0) (getD (countsIn contextLayout cb) 3 0) (getD (countsIn controllerLayout tb) 1 0) agree in
+    let (eu, ev) = same-letters cb tb agree in
     let (low, high) = count-within controllerLayout tb et 2 (omega arith) in
     table-row controllerLayout refl refl refl tb et (omega arith) (getD (countsIn contextLayout cb) 2 0) (getD (countsIn contextLayout cb) 3 0) eu ev s u v s′ hu hv
+
+-- and each of its rows is one of the context's u and v
+pub controller-codes : (cb sb tb : List ℕ) → fault controllerLayout tb ≡ Sound → lettersAgree cb tb ≡ true → (r : List ℕ) → List·Memᴰ r (rowsIn controllerLayout tb)
+    → (getD r 1 0 < skidOf cb sb .nU) × (getD r 2 0 < skidOf cb sb .nV) × (r ≡ getD r 0 0 ∷ getD r 1 0 ∷ getD r 2 0 ∷ getD r 3 0 ∷ [])
+unfolding skidOf controllerLayout
+controller-codes cb sb tb et agree =
+    let (eu, ev) = same-letters cb tb agree in
+    row-codes controllerLayout refl refl refl tb et (getD (countsIn contextLayout cb) 2 0) (getD (countsIn contextLayout cb) 3 0) eu ev

@@ -23,13 +23,14 @@ use Rattle.rules.specs.NextTables.{listing}
 use Rattle.rules.specs.Tables.{controllerTable}
 use Rattle.rules.specs.Reading.{readUnless, controllerRefusal, readController, ControllerRead}
 use Rattle.rules.specs.Writing.{places, controllerBytes, writeController, ControllerWritten}
+use Rattle.rules.specs.RoundTrips.{WrittenBack, Bytes}
 use Rattle.rules.proofs.Sound.{row-length, count-within, keys-rise, sound-head}
 use Rattle.rules.proofs.NotRefused.{orElse-fine}
 use Rattle.rules.proofs.ReadsFine.{read-fine, no-fault}
 use Rattle.rules.proofs.NextTables.{table-length}
 use Rattle.rules.proofs.Legal.{read-controller}
 use Rattle.rules.proofs.Read.{step-rows}
-use Rattle.rules.proofs.WrittenAgain.{Bytes, written-again}
+use Rattle.rules.proofs.WrittenAgain.{written-again}
 use Rattle.rules.proofs.TableListing.{listing-table}
 use Rattle.rules.proofs.Writes.{no-bad, writes}
 
@@ -77,11 +78,6 @@ module _ (b : List ℕ) (e : fault controllerLayout b ≡ Sound) (each : Bytes b
         (rw (length-append, table-size) (omega arith))
         (rw bytes-are room)
         (rw places-are (no-bad states (controllerTable b) (read-controller b e))))
-
--- the reply is 0, and the buffer has the bytes b from the start place on; all other bytes are as they were
-pub record WrittenBack (b buffer : List ℕ) (start states : ℕ) (reply : Reply) (buffer′ : List ℕ) : Type 0 where
-  pub reply-is : reply ≡ success states 0
-  pub buffer-is : buffer′ ≡ take start buffer ++ b ++ drop (start + length b) buffer
 
 -- what was read with 0
 record ReadFine (b lent : List ℕ) (r : Reading) (lent′ : List ℕ) : Type 0 where

@@ -8,19 +8,11 @@ use Rattle.pairs.specs.Lent.{filled}
 use Rattle.rules.specs.declared.Reply.{Reply}
 use Rattle.rules.specs.declared.Reading.{Reading}
 use Rattle.rules.specs.Limits.{nextNumbers}
-use Rattle.rules.specs.Replies.{success}
 use Rattle.rules.specs.Reading.{readController, ControllerRead}
 use Rattle.rules.specs.Writing.{places, controllerBytes, ControllerWritten}
+use Rattle.rules.specs.RoundTrips.{ReadBack}
 use Rattle.rules.proofs.ReadsFine.{read-reading, read-next}
 use Rattle.rules.proofs.Written.{write-sound, write-counts, write-table, write-not-refused, written-there}
-
--- read with the U, V, states and places given: the lent numbers hold the places and zeros after them, and what was beyond
-pub record ReadBack (nU nV states : ℕ) (table lent : List ℕ) (r : Reading) (lent′ : List ℕ) : Type 0 where
-  pub reply-same : r .reply ≡ success states 0
-  pub u-same : r .counts .u ≡ nU
-  pub v-same : r .counts .v ≡ nV
-  pub states-same : r .counts .states ≡ states
-  pub places-same : lent′ ≡ filled nextNumbers table lent
 
 -- "For every write that replies 0, at any start place in any buffer, reading those bytes replies 0 with the same U, V, states and places"
 pub write-then-read : (nU nV states : ℕ) (next buffer : List ℕ) (start : ℕ) (reply : Reply) (buffer′ : List ℕ)

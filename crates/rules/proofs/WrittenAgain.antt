@@ -13,11 +13,8 @@ use Rattle.rules.specs.Layouts.{Layout}
 use Rattle.rules.specs.Bytes.{little, bytesOf, numbers, written}
 use Rattle.rules.specs.Records.{rowsOf, lengthIn, headSize, rowSize, countsIn, rowCount, rowsIn, recordOf}
 use Rattle.rules.specs.Faults.{fault}
+use Rattle.rules.specs.RoundTrips.{Bytes}
 use Rattle.rules.proofs.Sound.{sound-head}
-
--- each is a byte
-abbrev pub Bytes : List ℕ → Type 0
-Bytes b = (x : ℕ) → List·Memᴰ x b → x < 256
 
 bytes-drop : (n : ℕ) (b : List ℕ) → Bytes b → Bytes (drop n b)
 bytes-drop zero b each = each

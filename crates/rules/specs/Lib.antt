@@ -16,5 +16,6 @@ pub mod FirstDiscovery
 pub mod Continues
 pub mod Reading
 pub mod Writing
+pub mod RoundTrips
 pub mod Meaning
 pub mod Skids

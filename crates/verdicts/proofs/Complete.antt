@@ -1,18 +1,18 @@
 -- The states reached by a controller's own rows are those that its words lead to. The check finds it incomplete exactly if one of them "has no
 -- row for some u".
 -- Assumes nothing.
-use mathlib.Core.Path.{_≡_, refl, sym, ap, subst, _∙_}
+use mathlib.Core.Path.{_≡_, sym, subst}
 use mathlib.Core.Logic.{_↔_, ∥∥₁-elim}
 use mathlib.Core.HLevel.{⊥-prop}
 use mathlib.Core.Bool.{Bool, false}
-use mathlib.Core.Option.{Option, some, IsSome, Option·some-injective}
-use mathlib.Core.List.{List, [], _∷_, _++_, map, List·Memᴰ, Memᴰ·cast, Memᴰ·map, Memᴰ·of-map}
+use mathlib.Core.Option.{Option, some, IsSome}
+use mathlib.Core.List.{List, map, List·Memᴰ, Memᴰ·cast}
 use Prim.Native.Nat.{ℕ, _+_, _*_, _<_}
 use lib.Dec.{T, T-not, not-T}
 use Rattle.words.specs.Words.{run}
 use Rattle.words.specs.System.{Letter}
 use Rattle.words.specs.Fit.{Complete}
-use Rattle.words.proofs.Words.{known, is-some, first-step, run-cons, run-last}
+use Rattle.words.proofs.Words.{known, is-some}
 use Rattle.words.proofs.Count.{stable}
 use Rattle.words.proofs.Faulty.{Lacking}
 use Rattle.pairs.specs.Scans.{all, any, left}
@@ -28,7 +28,7 @@ use Rattle.rules.proofs.Numbering.{Each}
 use Rattle.rules.proofs.Discover.{never-over}
 use Rattle.rules.proofs.Reached.{only-reached, all-reached}
 use Rattle.rules.proofs.Rows.{has-there, there-has, steps-below}
-use Rattle.rules.proofs.Letters.{letter-listed, letter-at}
+use Rattle.rules.proofs.ReachedWords.{reached-word, word-reached}
 use Rattle.verdicts.specs.Triples.{has}
 use Rattle.verdicts.specs.Verdict.{ownStates, incomplete}
 
@@ -39,22 +39,6 @@ module _ (k : Skid) (asked : ℕ → ℕ → Bool) (states : ℕ) (next : List �
   -- the steps of a state, letter by letter
   abbrev out : ℕ → List (Option ℕ)
   out d = map (λ t. there (nextAt k next d t)) (letters k)
-
-  -- what the rows reach, a word leads to
-  reached-word : (d : ℕ) → Reaches out 0 d → (w : List (Letter (system k asked))) × (run step 0 w ≡ some d)
-  reached-word d Reaches.here = ([], refl)
-  reached-word d (Reaches.onward {x = x} r m) =
-      let (w, e) = reached-word x r in
-      let (t, mt, e′) = Memᴰ·of-map (λ t. there (nextAt k next x t)) (letters k) m in
-      let (l, p) = letter-at k asked t mt in
-      (w ++ (l ∷ []), run-last step 0 w l e ∙ ap (λ t. there (nextAt k next x t)) p ∙ e′)
-
-  -- what a word leads to, the rows reach
-  word-reached : (w : List (Letter (system k asked))) (x d : ℕ) → Reaches out 0 x → run step x w ≡ some d → Reaches out 0 d
-  word-reached [] x d r e = subst (Reaches out 0) (Option·some-injective x d e) r
-  word-reached (l ∷ w) x d r e =
-      let (y, s, _) = first-step step x l w (is-some e) in
-      word-reached w y d (Reaches.onward r (Memᴰ·cast (sym s) (Memᴰ·map (λ t. there (nextAt k next x t)) (letter-listed k asked l)))) (sym (run-cons step {l = l} w s) ∙ e)
 
   -- a row for u: some letter (u, v) of the table
   reply-law : (d : ℕ) (u : system k asked .U) → T (any (λ v. has k next d (letterAt k (u .0) v)) (left 0 (k .nV))) ↔ ((r : system k asked .R) × IsSome (step d (u, r)))
@@ -78,9 +62,9 @@ module _ (k : Skid) (asked : ℕ → ℕ → Bool) (states : ℕ) (next : List �
     pub own-exactly : (d : ℕ) → List·Memᴰ d (ownStates k states next) ↔ ((w : List (Letter (system k asked))) × (run (tableStep k asked next) 0 w ≡ some d))
     unfolding ownStates
     own-exactly d = (
-      λ m. let (i, h, e) = mem-at 0 m in reached-word d (subst (Reaches out 0) e (only-reached states 0 out (table .occupied) i h)),
+      λ m. let (i, h, e) = mem-at 0 m in reached-word k asked (λ d t. there (nextAt k next d t)) 0 d (subst (Reaches out 0) e (only-reached states 0 out (table .occupied) i h)),
       λ s. let (w, e) = s in
-          let (i, h, e′) = all-reached states 0 out (table .occupied) not-over d (word-reached w 0 d Reaches.here e) in
+          let (i, h, e′) = all-reached states 0 out (table .occupied) not-over d (word-reached k asked (λ d t. there (nextAt k next d t)) 0 w d e) in
           Memᴰ·cast (sym e′) (at-mem (discover states out 0 .states) i 0 h),
     )
 
