@@ -31,6 +31,7 @@ pub mod Determined
 pub mod WrittenBytes
 pub mod WrittenRecord
 pub mod Listing
+pub mod EachRow
 pub mod NotRefused
 pub mod Written
 pub mod WriteRead

@@ -5,12 +5,11 @@ use mathlib.Core.Bool.{Bool, true, false}
 use mathlib.Core.List.{List, [], _∷_, _++_, flatMap, append-assoc, append-nil}
 use Prim.Native.Nat.{ℕ, suc, _+_, _-_, _*_, _^_, _≤_, _<_}
 use native.Mathlib.Nat.{zero-add, add-zero, mul-le-mul, mul-pos}
-use native.Mathlib.Numerals.{add-one}
 use native.Mathlib.Omega.{arith}
 use lib.Dec.{eqb}
 use lib.ListN.{length, getD, take, drop, length-append, length-take, length-drop, drop-of-length-le, take-append-drop}
-use lib.Seq.{sets, sets-eq, take-suc, take-at, drop-at, take-all, take-take, drop-drop, length-take-le}
-use borrow.Author.Tests.{eqb-true, eqb-false, eq-eqb, ne-eqb}
+use lib.Seq.{sets, sets-eq, take-at, drop-at, take-all, drop-drop}
+use borrow.Author.Tests.{eqb-true, eqb-false}
 use Rattle.pairs.specs.Scans.{if_then_else_}
 use Rattle.rules.specs.Limits.{absent}
 use Rattle.rules.specs.Layouts.{controllerLayout}
@@ -18,8 +17,9 @@ use Rattle.rules.specs.Bytes.{bytesOf, written}
 use Rattle.rules.specs.Records.{recordOf}
 use Rattle.rules.specs.NextTables.{listing}
 use Rattle.rules.specs.Writing.{places, controllerBytes}
-use Rattle.pairs.specs.Lent.{leading}
-use Rattle.writing.specs.Inside.{splicedAt, present, rowBytes, rowsBytes, headBytes, Codes, Writable}
+use Rattle.pairs.specs.Lent.{leading, splicedAt}
+use Rattle.rules.proofs.EachRow.{no-places, no-row, a-row, absent-place, present-place, rows-more, one-more-few}
+use Rattle.writing.specs.Inside.{present, rowBytes, rowsBytes, headBytes, Codes, Writable}
 use Rattle.writing.proofs.SurveyLaws.{present-few}
 
 -- ---- stores at the front
@@ -58,76 +58,43 @@ length-row : (nU nV p t : ℕ) → length (rowBytes nU nV p t) ≡ 6
 unfolding controllerLayout written bytesOf
 length-row nU nV p t = refl
 
-module _ (nU nV : ℕ) where
-  -- a place that is 65535 has no row
-  no-row : (p t : ℕ) (ts : List ℕ) → t ≡ absent → rowsBytes nU nV p (t ∷ ts) ≡ rowsBytes nU nV (suc p) ts
-  unfolding rowsBytes listing
-  no-row p t ts e = rw (eq-eqb t absent e)
+-- how a row is written; `rowsBytes` is what it gives for each row
+abbrev put : List ℕ → List ℕ
+put = written (controllerLayout .fieldSizes)
 
-  a-row : (p t : ℕ) (ts : List ℕ) → (t ≡ absent → ⊥) → rowsBytes nU nV p (t ∷ ts) ≡ rowBytes nU nV p t ++ rowsBytes nU nV (suc p) ts
-  unfolding rowsBytes listing flatMap
-  a-row p t ts n = rw (ne-eqb t absent n)
-
-  none : (p : ℕ) → rowsBytes nU nV p [] ≡ []
-  unfolding rowsBytes listing flatMap
-  none p = refl
-
-  absent-bytes : (p t : ℕ) → t ≡ 65535 → rowsBytes nU nV p (t ∷ []) ≡ []
-  absent-bytes p t e = no-row p t [] e ∙ none (suc p)
-
-  row-bytes : (p t : ℕ) → (t ≡ 65535 → ⊥) → rowsBytes nU nV p (t ∷ []) ≡ rowBytes nU nV p t
-  row-bytes p t n = a-row p t [] n ∙ rw (none, append-nil)
-
-  -- six bytes for each place that has a row
-  length-rows : (p : ℕ) (ts : List ℕ) → length (rowsBytes nU nV p ts) ≡ present ts * 6
-  unfolding present
-  length-rows p [] = rw none
-  length-rows p (t ∷ ts) = go (eqb t absent) refl (length-rows (suc p) ts)
-    where
-      go : (b : Bool) → eqb t absent ≡ b → length (rowsBytes nU nV (suc p) ts) ≡ present ts * 6 → length (rowsBytes nU nV p (t ∷ ts)) ≡ (if b then present ts else 1 + present ts) * 6
-      go true e h = rw (no-row p t ts (eqb-true t absent e)) h
-      go false e h = rw (a-row p t ts (eqb-false t absent e), length-append, length-row) (omega arith)
-
-  -- those of some places, and of those after them
-  rows-append : (p : ℕ) (ts us : List ℕ) → rowsBytes nU nV p (ts ++ us) ≡ rowsBytes nU nV p ts ++ rowsBytes nU nV (p + length ts) us
-  rows-append p [] us = rw (none, add-zero)
-  rows-append p (t ∷ ts) us = go (eqb t absent) refl (rows-append (suc p) ts us)
-    where
-      after : p + suc (length ts) ≡ suc p + length ts
-      after = omega arith
-
-      go : (b : Bool) → eqb t absent ≡ b → rowsBytes nU nV (suc p) (ts ++ us) ≡ rowsBytes nU nV (suc p) ts ++ rowsBytes nU nV (suc p + length ts) us
-          → rowsBytes nU nV p (t ∷ ts ++ us) ≡ rowsBytes nU nV p (t ∷ ts) ++ rowsBytes nU nV (p + suc (length ts)) us
-      go true e h = rw (no-row p t (ts ++ us) (eqb-true t absent e), no-row p t ts (eqb-true t absent e), after) h
-      go false e h = rw (a-row p t (ts ++ us) (eqb-false t absent e), a-row p t ts (eqb-false t absent e), append-assoc, after) (ap (λ r. rowBytes nU nV p t ++ r) h)
-
-  rows-more : (p : ℕ) (next : List ℕ) → p < length next → rowsBytes nU nV 0 (take (p + 1) next) ≡ rowsBytes nU nV 0 (take p next) ++ rowsBytes nU nV p (getD next p 0 ∷ [])
-  rows-more p next h = rw (add-one, take-suc next p 0 h, rows-append, length-take-le p next (omega arith), zero-add)
-
-  -- the first places give no more than all
-  rows-few : (q : ℕ) (ts : List ℕ) → length (rowsBytes nU nV 0 (take q ts)) ≤ length (rowsBytes nU nV 0 ts)
-  rows-few q ts =
-      let e = rows-append 0 (take q ts) (drop q ts) in
-      omega (arith, ap length (rw take-append-drop at e), length-append (rowsBytes nU nV 0 (take q ts)) (rowsBytes nU nV (0 + length (take q ts)) (drop q ts)))
+-- six bytes for each place that has a row
+length-rows : (nU nV p : ℕ) (ts : List ℕ) → length (rowsBytes nU nV p ts) ≡ present ts * 6
+unfolding rowsBytes present
+length-rows nU nV p [] = rw (no-places put nU nV p)
+length-rows nU nV p (t ∷ ts) = go (eqb t absent) refl (length-rows nU nV (suc p) ts)
+  where
+    go : (b : Bool) → eqb t absent ≡ b → length (rowsBytes nU nV (suc p) ts) ≡ present ts * 6 → length (rowsBytes nU nV p (t ∷ ts)) ≡ (if b then present ts else 1 + present ts) * 6
+    go true e h = rw (no-row put nU nV p t ts (eqb-true t absent e)) h
+    go false e h = rw (a-row put nU nV p t ts (eqb-false t absent e), length-append, length-row) (omega arith)
 
 -- ---- one place
 
 module _ (nU nV p to at : ℕ) where
   pub absent-at : to ≡ 65535 → at ≡ at + length (rowsBytes nU nV p (to ∷ []))
-  absent-at e = rw (absent-bytes nU nV p to e, add-zero)
+  unfolding rowsBytes
+  absent-at e = rw (absent-place put nU nV p to e, add-zero)
 
   pub absent-out : (out : List ℕ) → to ≡ 65535 → out ≡ splicedAt at (rowsBytes nU nV p (to ∷ [])) out
-  absent-out out e = rw (absent-bytes nU nV p to e, take-append-drop)
+  unfolding rowsBytes
+  absent-out out e = rw (absent-place put nU nV p to e, take-append-drop)
 
   pub row-room : (out : List ℕ) → (to ≡ 65535 → ⊥) → at + length (rowsBytes nU nV p (to ∷ [])) ≤ length out → 6 ≤ length (take (length out - at) (drop at out))
-  row-room out n h = rw (lent-part, length-drop) (omega (arith, ap length (row-bytes nU nV p to n), length-row nU nV p to))
+  unfolding rowsBytes
+  row-room out n h = rw (lent-part, length-drop) (omega (arith, ap length (present-place put nU nV p to n), length-row nU nV p to))
 
   pub row-at : (to ≡ 65535 → ⊥) → at + 6 ≡ at + length (rowsBytes nU nV p (to ∷ []))
-  row-at n = rw (row-bytes nU nV p to n, length-row)
+  unfolding rowsBytes
+  row-at n = rw (present-place put nU nV p to n, length-row)
 
   pub row-out : (out back : List ℕ) → (to ≡ 65535 → ⊥) → back ≡ leading (rowBytes nU nV p to) (take (length out - at) (drop at out))
       → take at out ++ (back ++ drop (length out - at) (drop at out)) ≡ splicedAt at (rowsBytes nU nV p (to ∷ [])) out
-  row-out out back n e = rw (row-bytes nU nV p to n) (lent-back out at back (rowBytes nU nV p to) e)
+  unfolding rowsBytes
+  row-out out back n e = rw (present-place put nU nV p to n) (lent-back out at back (rowBytes nU nV p to) e)
 
 -- ---- the loop over the places
 
@@ -140,26 +107,31 @@ length-leading : (part o : List ℕ) → length part ≤ length o → length (le
 length-leading part o h = simp (length-append, length-drop) (omega arith)
 
 pub none-long : (nU nV : ℕ) → 0 ≡ length (rowsBytes nU nV 0 [])
-none-long nU nV = rw (none nU nV 0)
+unfolding rowsBytes
+none-long nU nV = rw (no-places put nU nV 0)
 
 pub leading-none : (nU nV : ℕ) (out : List ℕ) → out ≡ leading (rowsBytes nU nV 0 []) out
-leading-none nU nV out = rw (none nU nV 0)
+unfolding rowsBytes
+leading-none nU nV out = rw (no-places put nU nV 0)
 
 module _ (nU nV size p at : ℕ) (next o out : List ℕ) where
   pub turn-room : p < size → size ≤ length next → length (rowsBytes nU nV 0 (take size next)) ≤ length o → at ≡ length (rowsBytes nU nV 0 (take p next))
       → out ≡ leading (rowsBytes nU nV 0 (take p next)) o → at + length (rowsBytes nU nV p (getD next p 0 ∷ [])) ≤ length out
+  unfolding rowsBytes
   turn-room more enough room is-at is-out =
-      let few = rw (take-take (p + 1) size next (omega arith), rows-more nU nV p next (omega arith), length-append) at (rows-few nU nV (p + 1) (take size next)) in
+      let few = one-more-few put nU nV size p next more enough in
       rw (is-out, length-leading (rowsBytes nU nV 0 (take p next)) o (omega arith)) (omega arith)
 
   pub turn-at : (at′ : ℕ) → p < size → size ≤ length next → at ≡ length (rowsBytes nU nV 0 (take p next))
       → at′ ≡ at + length (rowsBytes nU nV p (getD next p 0 ∷ [])) → at′ ≡ length (rowsBytes nU nV 0 (take (p + 1) next))
-  turn-at at′ more enough is-at is-next = rw (rows-more nU nV p next (omega arith), length-append, ← is-at) is-next
+  unfolding rowsBytes
+  turn-at at′ more enough is-at is-next = rw (rows-more put nU nV p next (omega arith), length-append, ← is-at) is-next
 
   pub turn-out : (out′ : List ℕ) → p < size → size ≤ length next → at ≡ length (rowsBytes nU nV 0 (take p next)) → out ≡ leading (rowsBytes nU nV 0 (take p next)) o
       → out′ ≡ splicedAt at (rowsBytes nU nV p (getD next p 0 ∷ [])) out → out′ ≡ leading (rowsBytes nU nV 0 (take (p + 1) next)) o
+  unfolding rowsBytes
   turn-out out′ more enough is-at is-out is-next =
-      is-next ∙ rw (is-out, rows-more nU nV p next (omega arith)) (leading-more (rowsBytes nU nV 0 (take p next)) (rowsBytes nU nV p (getD next p 0 ∷ [])) o at is-at)
+      is-next ∙ rw (is-out, rows-more put nU nV p next (omega arith)) (leading-more (rowsBytes nU nV 0 (take p next)) (rowsBytes nU nV p (getD next p 0 ∷ [])) o at is-at)
 
   pub end-out : p ≤ size → size ≤ p → out ≡ leading (rowsBytes nU nV 0 (take p next)) o → out ≡ leading (rowsBytes nU nV 0 (take size next)) o
   end-out h k is-out = let e : size ≡ p = omega arith in rw e is-out

@@ -4,19 +4,14 @@ use mathlib.Core.Path.{_≡_}
 use Prim.Native.Nat.{ℕ, _+_, _*_, _/_, _%_, _≤_}
 use mathlib.Core.List.{List, [], _∷_, _++_, flatMap}
 use lib.Dec.{eqb}
-use lib.ListN.{length, take, drop}
+use lib.ListN.{length, take}
 use Rattle.pairs.specs.Scans.{if_then_else_}
-use Rattle.pairs.specs.Lent.{leading}
 use Rattle.writing.specs.declared.Survey.{Survey}
 use Rattle.rules.specs.Limits.{absent}
 use Rattle.rules.specs.Layouts.{controllerLayout}
 use Rattle.rules.specs.Bytes.{bytesOf, written}
 use Rattle.rules.specs.NextTables.{listing}
 use Rattle.rules.specs.Writing.{badPlace}
-
--- the numbers at a place of a buffer; the rest stays
-abbrev pub splicedAt : ℕ → List ℕ → List ℕ → List ℕ
-splicedAt at part buffer = take at buffer ++ leading part (drop at buffer)
 
 -- how many places have a row
 unfoldable pub present : List ℕ → ℕ
