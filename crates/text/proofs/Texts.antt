@@ -15,9 +15,9 @@ use Rattle.rules.specs.Limits.{stateLimit, setNumbers, nextNumbers}
 use Rattle.pairs.specs.Lent.{setSize}
 use Rattle.verdicts.specs.Check.{checkRefusal, check}
 use Rattle.answers.specs.Solve.{solveRefusal, solveFor, solveBy, solve}
-use Rattle.text.specs.Lines.{decimal, digits, line, statesWord, roundsWord, refusedWord, recordWord, rowWord, fitsWord, refusedText, solvedText, checkedText}
+use Rattle.text.specs.Lines.{decimal, digits, line, statesWord, roundsWord, refusedWord, recordWord, rowWord, fitsWord, refusedText, solvedLine, solvedText, checkedText}
 use Rattle.text.specs.Inputs.{solveLimit, fitLimit, recordEnd, firstRecord, behind}
-use Rattle.text.specs.Programs.{solvePrinted, solveText, fitText}
+use Rattle.text.specs.Programs.{solvePrinted, solveText, fitPrinted, fitText}
 
 -- "refused N record K row 0 rounds 0" of one digit or two; "fits states 12"
 abbrev refusedLine : List ℕ → ℕ → List ℕ
@@ -63,7 +63,7 @@ solves : (solveText (replicate 28690 0)
     ∷ refusedLine one 1
     ∷ refusedLine one 2
     ∷ []
-unfolding one thirteen less total stateLimit setSize setNumbers nextNumbers contextLayout specificationLayout little numbers rowsOf headFault rowFault rowsFault fault unless _orElse_ faultReply recordRefusal skidRefusal solveRefusal solveFor solveBy solve decimal digits line statesWord roundsWord refusedWord recordWord rowWord refusedText solvedText solveLimit recordEnd firstRecord behind solvePrinted solveText allWith
+unfolding one thirteen less total stateLimit setSize setNumbers nextNumbers contextLayout specificationLayout little numbers rowsOf headFault rowFault rowsFault fault unless _orElse_ faultReply recordRefusal skidRefusal solveRefusal solveFor solveBy solve decimal digits line statesWord roundsWord refusedWord recordWord rowWord refusedText solvedLine solvedText solveLimit recordEnd firstRecord behind solvePrinted solveText allWith
 solves = refl
 
 -- one byte too many, and none too many; no byte at all; a context and no specification; a context, a specification and no controller
@@ -79,5 +79,5 @@ checks : (fitText (replicate 77849 0)
     ∷ refusedLine one 2
     ∷ refusedLine one 3
     ∷ []
-unfolding one less total stateLimit setSize setNumbers contextLayout specificationLayout little numbers rowsOf headFault rowFault rowsFault fault unless _orElse_ faultReply recordRefusal skidRefusal checkRefusal check decimal digits line roundsWord refusedWord recordWord rowWord refusedText checkedText fitLimit recordEnd firstRecord behind fitText allWith
+unfolding one less total stateLimit setSize setNumbers contextLayout specificationLayout little numbers rowsOf headFault rowFault rowsFault fault unless _orElse_ faultReply recordRefusal skidRefusal checkRefusal check decimal digits line roundsWord refusedWord recordWord rowWord refusedText checkedText fitLimit recordEnd firstRecord behind fitPrinted fitText allWith
 checks = refl

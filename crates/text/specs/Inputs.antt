@@ -1,5 +1,6 @@
 -- Document 01, "`solve` reads standard input": how the bytes are cut into records.
 -- Assumes nothing.
+use mathlib.Core.Path.{_≡_}
 use Prim.Native.Nat.{ℕ, _+_}
 use mathlib.Core.Bool.{_||_}
 use mathlib.Core.List.{List}
@@ -20,9 +21,19 @@ fitLimit = 77848
 unfoldable pub recordEnd : List ℕ → ℕ
 recordEnd b = if ltb (length b) 2 || ltb (length b) (lengthIn b + 2) then length b else lengthIn b + 2
 
+abbrev pub RecordEnd : List ℕ → ℕ → Type 0
+RecordEnd b r = r ≡ recordEnd b
+
 -- the first record of the bytes, and what stands behind it
 unfoldable pub firstRecord : List ℕ → List ℕ
 firstRecord b = take (recordEnd b) b
 
 unfoldable pub behind : List ℕ → List ℕ
 behind b = drop (recordEnd b) b
+
+-- no text of `solve` is longer than this many bytes: a first line of at most 36, and at most 8,192 lines of at most 14; and no text of `fit_table`
+unfoldable pub solveTextLimit : ℕ
+solveTextLimit = 114724
+
+unfoldable pub fitTextLimit : ℕ
+fitTextLimit = 70

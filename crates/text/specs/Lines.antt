@@ -1,6 +1,5 @@
 -- Document 01, "Output": the lines that the programs print.
 -- Assumes nothing.
-use mathlib.Core.Path.{_≡_}
 use Prim.Native.Nat.{ℕ, zero, suc, _+_, _*_, _/_, _%_}
 use mathlib.Core.List.{List, [], _∷_, _++_, flatMap}
 use lib.Dec.{ltb}
@@ -24,9 +23,6 @@ digits n = decimal (suc n) n
 -- "Each line ends with byte 0A."
 abbrev pub lineEnd : ℕ
 lineEnd = 0x0A
-
-abbrev pub LineEnd : ℕ → Type 0
-LineEnd b = b ≡ lineEnd
 
 -- numbers with a blank between, and the line's end
 unfoldable pub line : List ℕ → List ℕ
@@ -58,11 +54,15 @@ unfoldable pub refusedText : Reply → List ℕ
 refusedText r =
     refusedWord ++ digits (r .number) ++ recordWord ++ digits (r .«record») ++ rowWord ++ digits (r .row) ++ roundsWord ++ line (r .rounds ∷ [])
 
--- "`states N rounds R`, then a line `state u v next` for each present step in table order": U and V, the reply, the next table's buffer
+-- "`states N rounds R`"
+unfoldable pub solvedLine : ℕ → ℕ → List ℕ
+solvedLine states rounds = statesWord ++ digits states ++ roundsWord ++ line (rounds ∷ [])
+
+-- "then a line `state u v next` for each present step in table order": U and V, the reply, the next table's buffer
 unfoldable pub solvedText : ℕ → ℕ → Reply → List ℕ → List ℕ
 solvedText nU nV r next =
     let table : List ℕ = flatMap line (listing nU nV 0 (take (r .states * (nU * nV)) next)) in
-    let answered : List ℕ = statesWord ++ digits (r .states) ++ roundsWord ++ line (r .rounds ∷ []) ++ table in
+    let answered : List ℕ = solvedLine (r .states) (r .rounds) ++ table in
     if refuses r then refusedText r else answered
 
 -- `fits states N`

@@ -23,13 +23,13 @@ use Rattle.answers.specs.Rounds.{round, deletion, lasting}
 use Rattle.answers.specs.Unblocked.{setsOf, passes, unblocked, afresh}
 use Rattle.answers.specs.Solve.{plainSolution, unblockedSolution, solutionOf, solution, solveRefusal, solved, solveFor, solveBy, solve}
 use Rattle.answers.specs.Skids.{solves}
-use Rattle.text.specs.Lines.{decimal, digits, line, statesWord, roundsWord, refusedWord, recordWord, rowWord, refusedText, solvedText}
+use Rattle.text.specs.Lines.{decimal, digits, line, statesWord, roundsWord, refusedWord, recordWord, rowWord, refusedText, solvedLine, solvedText}
 use Rattle.text.specs.Inputs.{solveLimit, recordEnd, firstRecord, behind}
 use Rattle.text.specs.Programs.{solvePrinted, solveText}
 
 -- "With mode byte 1, `solve` prints exactly"
 unfoldable pub prints : Case → Printing → Bool
-unfolding all any firstPlace upward left find less total member join add pairLimit filled setSize encoded encodedSets flatMap stateLimit setNumbers nextNumbers contextLayout specificationLayout little numbers rowsOf headFault rowFault rowsFault fault unless _orElse_ faultReply recordRefusal tableOf listing specificationTable skidOf specNext letters pairs skidRefusal outsideAgree productFits outsideRefusal productRefusal meet scan discover everyInput answers continuesOn continues reached byRow byPair after startSet plain round deletion lasting passes unblocked afresh setsOf plainSolution unblockedSolution solutionOf solution solveRefusal solved solveFor solveBy solve decimal digits line statesWord roundsWord refusedWord recordWord rowWord refusedText solvedText solveLimit recordEnd firstRecord behind solvePrinted solveText allWith
+unfolding all any firstPlace upward left find less total member join add pairLimit filled setSize encoded encodedSets flatMap stateLimit setNumbers nextNumbers contextLayout specificationLayout little numbers rowsOf headFault rowFault rowsFault fault unless _orElse_ faultReply recordRefusal tableOf listing specificationTable skidOf specNext letters pairs skidRefusal outsideAgree productFits outsideRefusal productRefusal meet scan discover everyInput answers continuesOn continues reached byRow byPair after startSet plain round deletion lasting passes unblocked afresh setsOf plainSolution unblockedSolution solutionOf solution solveRefusal solved solveFor solveBy solve decimal digits line statesWord roundsWord refusedWord recordWord rowWord refusedText solvedLine solvedText solveLimit recordEnd firstRecord behind solvePrinted solveText allWith
 prints c p = same (solveText (p .mode ∷ (c .context ++ c .specification))) (p .text)
 
 -- each answer in each mode, each verdict and each printed text that document 01 gives for the skid

@@ -1,9 +1,7 @@
 // The bytes that the two programs print, and how their input is cut.
-ghost use Rattle.text.specs.Lines.{LineEnd};
-
-// "Each line ends with byte 0A."
-pub fn line_end() -> u8
-    ensures { λ r. ⌜ LineEnd r ⌝ }
-{
-    b'\n'
-}
+pub mod cutting;
+pub mod fitting;
+mod lines;
+mod numbers;
+pub mod solving;
+mod steps;

@@ -1,4 +1,4 @@
--- The digits of a number: each is one of 0 to 9, read back they give the number, none is lost for lack of fuel, and only 0 begins with 0.
+-- The digits of a number: each is one of 0 to 9, all but the last are those of a tenth of it, read back they give the number, none is lost for lack of fuel, and only 0 begins with 0.
 -- Assumes nothing.
 use mathlib.Core.Path.{_≡_, refl, sym, ap, _∙_}
 use mathlib.Core.Logic.{⊎-elim}
@@ -9,7 +9,7 @@ use native.Mathlib.Nat.{not-suc-le-zero, div-lt-self, div-add-mod', mod-lt}
 use native.Mathlib.Omega.{arith}
 use lib.Dec.{ltb}
 use lib.ListN.{length, getD, length-append, List·getD-append}
-use borrow.Author.Tests.{ltb-true, ltb-false}
+use borrow.Author.Tests.{ltb-true, ltb-false, lt-ltb, le-ltb}
 use Rattle.pairs.specs.Scans.{if_then_else_}
 use Rattle.text.specs.Lines.{decimal, digits}
 
@@ -35,6 +35,15 @@ decimal-fuel (suc f) (suc g) n hf hg = go (ltb n 10) refl (decimal-fuel f g (n /
 pub digits-fuel : (f n : ℕ) → n < f → decimal f n ≡ digits n
 unfolding digits
 digits-fuel f n h = decimal-fuel f (suc n) n h (omega arith)
+
+pub digits-one : (n : ℕ) → n < 10 → digits n ≡ (48 + n) ∷ []
+unfolding digits decimal
+digits-one n h = rw (lt-ltb n 10 h)
+
+-- the last digit stands behind those of the number without it
+pub digits-more : (n : ℕ) → 10 ≤ n → digits n ≡ digits (n / 10) ++ ((48 + n % 10) ∷ [])
+unfolding digits decimal
+digits-more n h = rw (le-ltb n 10 h) (ap (λ l. l ++ ((48 + n % 10) ∷ [])) (digits-fuel n (n / 10) (shorter n h)))
 
 decimal-value : (f n : ℕ) → n < f → value (decimal f n) ≡ n
 unfolding decimal
