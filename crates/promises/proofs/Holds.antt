@@ -21,10 +21,9 @@ use Rattle.rules.specs.Continues.{everyInput}
 use Rattle.rules.specs.Meaning.{NextTable, Legal, system}
 use Rattle.rules.proofs.Discover.{below-or-not}
 use Rattle.verdicts.specs.Checkable.{skidSystem}
-use Rattle.promises.specs.Buffers as buffers
-use Rattle.promises.specs.Buffers.{HoldTable}
+use Rattle.promises.specs.Buffers.{LeadsTo, HoldTable}
 use Rattle.promises.proofs.SamePairs.{below-only}
-use Rattle.promises.proofs.SetAutomaton.{setAutomaton, LeadsTo, leads-same, reached-below}
+use Rattle.promises.proofs.SetAutomaton.{setAutomaton, LeadsToSet, leads-same, reached-below}
 use Rattle.promises.proofs.TableStates.{run-below}
 
 module _ (context specification : List ℕ) (legal : Legal (skidOf context specification)) where
@@ -36,9 +35,9 @@ module _ (context specification : List ℕ) (legal : Legal (skidOf context speci
     pub each-state : length reached ≡ states
     pub each-step : length table ≡ states * (skidOf context specification .nU * skidOf context specification .nV)
     pub steps : NextTable states table
-    pub leads : (w : List (Letter (skidSystem context specification))) (q : ℕ) → buffers.LeadsTo context specification table w q
-        → LeadsTo (skidOf context specification) everyInput legal w (getD reached q 0)
-    pub words : (q : ℕ) → q < states → (w : List (Letter (skidSystem context specification))) × buffers.LeadsTo context specification table w q
+    pub leads : (w : List (Letter (skidSystem context specification))) (q : ℕ) → LeadsTo context specification table w q
+        → LeadsToSet (skidOf context specification) everyInput legal w (getD reached q 0)
+    pub words : (q : ℕ) → q < states → (w : List (Letter (skidSystem context specification))) × LeadsTo context specification table w q
     pub distinct : (q q′ : ℕ) → q < states → q′ < states → getD reached q 0 ≡ getD reached q′ 0 → q ≡ q′
     pub in-order : firsts (0 ∷ targets (map there table)) ≡ left 0 states
 

@@ -24,7 +24,7 @@ use Rattle.answers.proofs.Plain.{setSteps, plain-discovered}
 use Rattle.answers.proofs.Afresh.{keptSteps, plain-table, unblocked-discovered}
 use Rattle.verdicts.specs.Checkable.{skidSystem}
 use Rattle.promises.specs.Buffers.{LeadsTo}
-use Rattle.promises.proofs.SetAutomaton as sets
+use Rattle.promises.proofs.SetAutomaton.{LeadsToSet}
 use Rattle.promises.proofs.TableStates.{run-below}
 use Rattle.promises.proofs.Discovered.{discovered-leads, discovered-word}
 use Rattle.promises.proofs.Fresh.{fresh-few, fresh-table, fresh-leads, fresh-word}
@@ -94,6 +94,6 @@ module _ (context specification : List ℕ) (legal : Legal (skidOf context speci
     }
       where
         leads : (w : List (Letter (skidSystem context specification))) (q : ℕ) → LeadsTo context specification (f .next) w q
-            → sets.LeadsTo k everyInput legal w (getD (setsOf (d .states) (f .states)) q 0)
+            → LeadsToSet k everyInput legal w (getD (setsOf (d .states) (f .states)) q 0)
         leads w q e = discovered-leads k everyInput (after k) (startSet k) d discovery (table .few) w (getD (f .states) q 0) (fresh-leads k everyInput (d .states) (d .next) table kept w q e)
             ∙ ap some (sym (set-at q (run-below k everyInput (length (f .states)) (f .next) (fresh-table k (d .states) (d .next) table kept) w q e)))

@@ -74,11 +74,11 @@ module _ (k : Skid) (asked : ℕ → ℕ → Bool) where
     }
 
     -- the word leads to the set s
-    abbrev pub LeadsTo : List (Letter (system k asked)) → ℕ → Type 0
-    LeadsTo w s = run (setAutomaton .next) (startSet k) w ≡ some s
+    abbrev pub LeadsToSet : List (Letter (system k asked)) → ℕ → Type 0
+    LeadsToSet w s = run (setAutomaton .next) (startSet k) w ≡ some s
 
     -- two words lead to one set exactly where they reach the same pairs
-    pub leads-same : (w w′ : List (Letter (system k asked))) (s s′ : ℕ) → LeadsTo w s → LeadsTo w′ s′ → (s ≡ s′) ↔ SameSet (system k asked) w w′
+    pub leads-same : (w w′ : List (Letter (system k asked))) (s s′ : ℕ) → LeadsToSet w s → LeadsToSet w′ s′ → (s ≡ s′) ↔ SameSet (system k asked) w w′
     leads-same w w′ s s′ e e′ = (
       λ same a c. (
         λ h. held′ a c .0 (subst (λ s. InSet k s a c) same (held a c .1 h)),
@@ -93,13 +93,13 @@ module _ (k : Skid) (asked : ℕ → ℕ → Bool) where
         held′ : (a c : ℕ) → InSet k s′ a c ↔ PairAfter (system k asked) w′ a c
         held′ = pair-after (system k asked) setAutomaton w′ s′ e′
 
-        below : (w : List (Letter (system k asked))) (s : ℕ) → LeadsTo w s → s < 2 ^ (k .nA * k .nC)
+        below : (w : List (Letter (system k asked))) (s : ℕ) → LeadsToSet w s → s < 2 ^ (k .nA * k .nC)
         below w s e = reached-below k legal s (run-ok (system k asked) setAutomaton w s e)
 
     -- different sets are reached by words that reach different pairs
     sets-words : (n : ℕ) → MoreThan n (Reaches (setSteps k) (startSet k)) → MoreSets (system k asked) n
     sets-words n (xs, more, different) =
-        let (ws, size, leads) = chosen (λ s w. LeadsTo w s) 0 [] xs (λ i h. reached-word k asked (after k) (startSet k) (getD xs i 0) (different .each i h)) in
+        let (ws, size, leads) = chosen (λ s w. LeadsToSet w s) 0 [] xs (λ i h. reached-word k asked (after k) (startSet k) (getD xs i 0) (different .each i h)) in
         record {
           words = ws;
           more = subst (λ m. n < m) (sym size) more;
@@ -113,7 +113,7 @@ module _ (k : Skid) (asked : ℕ → ℕ → Bool) where
     -- plain words that reach different pairs lead to different sets
     words-sets : (n : ℕ) → MoreSets (system k asked) n → MoreThan n (Reaches (setSteps k) (startSet k))
     words-sets n y =
-        let (xs, size, leads) = chosen LeadsTo [] 0 (y .words) (λ i h. let q = plain-leads (system k asked) setAutomaton (getD (y .words) i []) (y .plain i h) in (q .0, q .1)) in (
+        let (xs, size, leads) = chosen LeadsToSet [] 0 (y .words) (λ i h. let q = plain-leads (system k asked) setAutomaton (getD (y .words) i []) (y .plain i h) in (q .0, q .1)) in (
           xs,
           subst (λ m. n < m) (sym size) (y .more),
           record {
