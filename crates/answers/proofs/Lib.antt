@@ -8,4 +8,5 @@ pub mod Skids
 pub mod Determined
 pub mod Unblocked
 pub mod Afresh
+pub mod Solutions
 pub mod Small

@@ -17,8 +17,7 @@ use Rattle.rules.specs.Faults.{fault}
 use Rattle.rules.specs.Replies.{refuses, recordRefusal}
 use Rattle.rules.specs.Tables.{Skid, skidOf, letters}
 use Rattle.rules.specs.Matching.{skidRefusal}
-use Rattle.rules.specs.Discover.{Numbered, discover}
-use Rattle.rules.specs.Continues.{everyInput}
+use Rattle.rules.specs.Discover.{discover}
 use Rattle.rules.proofs.Numbering.{Each, Listed}
 use Rattle.rules.proofs.Discover.{discover-known}
 use Rattle.rules.proofs.ReadsFine.{no-fault}
@@ -27,11 +26,11 @@ use Rattle.answers.specs.declared.Wanted.{Wanted}
 use Rattle.answers.specs.declared.Wanted.the-variants.{Plain, Unblocked}
 use Rattle.answers.specs.declared.Mode.{Mode}
 use Rattle.answers.specs.declared.Mode.the-variants.{Known, Unknown}
-use Rattle.answers.specs.declared.Answer.the-variants.{Table, TooMany, None}
+use Rattle.answers.specs.declared.Answer.the-variants.{TooMany}
 use Rattle.answers.specs.Plain.{after, startSet, plain}
-use Rattle.answers.specs.Rounds.{isKept, Deletion}
-use Rattle.answers.specs.Unblocked.{stepOn, setsOf, unblocked, afresh}
-use Rattle.answers.specs.Solve.{modeOf, answerReply, Solution, noTable, plainSolution, unblockedSolution, solutionOf, solution, SolveOutcome, stays, solved, solveRefusal, solveFor, solveBy, solve, Solved}
+use Rattle.answers.specs.Unblocked.{stepOn, afresh}
+use Rattle.answers.specs.Solve.{modeOf, answerReply, Solution, noTable, plainSolution, solutionOf, solution, SolveOutcome, stays, solved, solveRefusal, solveFor, solveBy, solve, Solved}
+use Rattle.answers.proofs.Solutions.{deleted, either-solution}
 
 -- discovery lists at least the start and no state beyond its limit, over or not
 listed : (limit start : ℕ) (out : ℕ → List (Option ℕ)) → 1 ≤ limit → Listed limit start (λ _. Unit {0}) (discover limit out start .states)
@@ -58,23 +57,13 @@ module _ (k : Skid) where
       listed (length (plain k .states)) 0 (λ s. map (stepOn k (plain k .next) kept s) (letters k)) plain-some .bounded in
       omega (arith, most, plain-few)
 
-  abbrev deleted : Deletion
-  deleted = unblocked k (plain k .states) (plain k .next) everyInput
-
-  abbrev fresh : Numbered
-  fresh = afresh k (plain k .states) (plain k .next) (deleted .kept)
-
   abbrev Few : Solution → Type 0
   Few s = answerReply (s .answer) .states ≤ stateLimit
 
   wanted-few : (w : Wanted) → Few (solutionOf w k (plain k))
-  unfolding solutionOf plainSolution unblockedSolution
+  unfolding solutionOf plainSolution
   wanted-few Plain = plain-few
-  wanted-few Unblocked = go (isKept (deleted .kept) 0)
-    where
-      go : (b : Bool) → Few (if b then record { answer = Table (length (fresh .states)) (deleted .rounds); sets = setsOf (plain k .states) (fresh .states); next = fresh .next } else noTable (None (deleted .rounds)))
-      go true = afresh-few (deleted .kept)
-      go false = omega arith
+  wanted-few Unblocked = either-solution k Few (afresh-few (deleted k .kept)) (omega arith)
 
   solution-few : (w : Wanted) → Few (solution w k)
   unfolding solution

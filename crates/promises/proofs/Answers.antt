@@ -33,6 +33,7 @@ use Rattle.answers.specs.Unblocked.{setsOf}
 use Rattle.answers.specs.Solve.{answerReply, noTable, plainSolution, solved, Gives}
 use Rattle.answers.proofs.Plain.{setSteps, plain-discovered}
 use Rattle.answers.proofs.Afresh.{plain-table}
+use Rattle.answers.proofs.Solutions.{deleted, fresh, freshSolution}
 use Rattle.verdicts.specs.Checkable.{skidSystem}
 use Rattle.promises.specs.Solvable.{Solvable, WordsOf}
 use Rattle.promises.specs.Buffers.{HoldTable}
@@ -44,7 +45,7 @@ use Rattle.promises.proofs.Fresh.{fresh-renamed}
 use Rattle.promises.proofs.Filled.{filled-words}
 use Rattle.promises.proofs.Holds.{Numbers, hold-table}
 use Rattle.promises.proofs.Numbered.{plain-numbers, fresh-numbers}
-use Rattle.promises.proofs.Solvable.{deleted, fresh, freshSolution, zeros-given}
+use Rattle.promises.proofs.Solvable.{zeros-given}
 
 -- a reply has its own values
 own-table : (reply : Reply) (states rounds : ℕ) → reply ≡ answerReply (Table states rounds) → reply ≡ answerReply (Table (reply .states) (reply .rounds))

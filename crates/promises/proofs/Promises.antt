@@ -21,6 +21,7 @@ use Rattle.answers.specs.Plain.{plain}
 use Rattle.answers.specs.Rounds.{isKept}
 use Rattle.answers.specs.Solve.{modeOf, answerReply, plainSolution, solved, Solved}
 use Rattle.answers.proofs.Unblocked as rounds
+use Rattle.answers.proofs.Solutions.{deleted}
 use Rattle.answers.proofs.Small.{solved-small}
 use Rattle.verdicts.specs.Checkable.{skidSystem}
 use Rattle.promises.specs.Solvable.{Solvable, TooManySets}
@@ -28,7 +29,7 @@ use Rattle.promises.specs.Solving.{IsUnblockedAnswer, IsNone, IsTooMany}
 use Rattle.promises.specs.Promises.{OfSolving, Promises}
 use Rattle.promises.proofs.Rows.{skid-of-rows, table-of-rows}
 use Rattle.promises.proofs.SetAutomaton.{too-many-exactly}
-use Rattle.promises.proofs.Solvable.{answered-solvable, deleted, too-many-given, plain-given, unblocked-given, none-given, number-too-many, zeros-given}
+use Rattle.promises.proofs.Solvable.{answered-solvable, too-many-given, plain-given, unblocked-given, none-given, number-too-many, zeros-given}
 use Rattle.promises.proofs.Answers.{is-plain, is-unblocked, is-none}
 use Rattle.promises.proofs.Checking.{checking-keeps}
 use Rattle.promises.proofs.Together.{written-fits, inside}

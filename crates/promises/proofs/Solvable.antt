@@ -20,8 +20,6 @@ use Rattle.rules.specs.Faults.{fault}
 use Rattle.rules.specs.Replies.{refuses, unless, _orElse_, faultReply, recordRefusal}
 use Rattle.rules.specs.Tables.{Skid, skidOf}
 use Rattle.rules.specs.Matching.{skidRefusal, outsideAgree, productFits, outsideRefusal, productRefusal}
-use Rattle.rules.specs.Discover.{Numbered}
-use Rattle.rules.specs.Continues.{everyInput}
 use Rattle.rules.proofs.ReadsFine.{no-fault}
 use Rattle.rules.proofs.NotRefused.{orElse-fine, unless-fine, orElse-most, unless-most, record-most}
 use Rattle.answers.specs.declared.Wanted.{Wanted}
@@ -29,11 +27,11 @@ use Rattle.answers.specs.declared.Wanted.the-variants.{Plain, Unblocked}
 use Rattle.answers.specs.declared.Mode.{Mode}
 use Rattle.answers.specs.declared.Mode.the-variants.{Known, Unknown}
 use Rattle.answers.specs.declared.Answer.{Answer}
-use Rattle.answers.specs.declared.Answer.the-variants.{Table, TooMany, None}
+use Rattle.answers.specs.declared.Answer.the-variants.{TooMany, None}
 use Rattle.answers.specs.Plain.{plain}
-use Rattle.answers.specs.Rounds.{isKept, Deletion}
-use Rattle.answers.specs.Unblocked.{setsOf, unblocked, afresh}
+use Rattle.answers.specs.Rounds.{isKept}
 use Rattle.answers.specs.Solve.{modeOf, answerReply, Solution, noTable, plainSolution, unblockedSolution, solutionOf, solution, SolveOutcome, stays, solved, solveRefusal, solveFor, solveBy, solve, Gives, Solved}
+use Rattle.answers.proofs.Solutions.{deleted, freshSolution, over-solution, within-solution, kept-solution, none-solution, either-solution}
 use Rattle.promises.specs.Solvable.{Solvable}
 use Rattle.promises.specs.Buffers.{HoldZeros}
 
@@ -117,42 +115,11 @@ answered-solvable mode context specification sets next reply sets′ next′ don
     go (Known w) e h = ((w, e), answer-solvable context specification sets next w (⊎-map (λ z. z) (⊎-elim (λ z. omega arith) (λ z. omega arith)) h))
 
 -- ---- the four solutions
-module _ (k : Skid) where
-  abbrev pub deleted : Deletion
-  deleted = unblocked k (plain k .states) (plain k .next) everyInput
-
-  abbrev pub fresh : Numbered
-  fresh = afresh k (plain k .states) (plain k .next) (deleted .kept)
-
-  -- the unblocked answer where the start is kept
-  abbrev pub freshSolution : Solution
-  freshSolution = record { answer = Table (length (fresh .states)) (deleted .rounds); sets = setsOf (plain k .states) (fresh .states); next = fresh .next }
-
-  over-solution : (w : Wanted) → plain k .over ≡ true → solution w k ≡ noTable TooMany
-  unfolding solution
-  over-solution w e = rw e
-
-  within-solution : (w : Wanted) → plain k .over ≡ false → solution w k ≡ solutionOf w k (plain k)
-  unfolding solution
-  within-solution w e = rw e
-
-  kept-solution : isKept (deleted .kept) 0 ≡ true → unblockedSolution k (plain k) ≡ freshSolution
-  unfolding unblockedSolution
-  kept-solution e = rw e
-
-  none-solution : isKept (deleted .kept) 0 ≡ false → unblockedSolution k (plain k) ≡ noTable (None (deleted .rounds))
-  unfolding unblockedSolution
-  none-solution e = rw e
-
-  -- only one state too many gives 11
-  not-over : (w : Wanted) → answerReply (solutionOf w k (plain k) .answer) .number ≡ answerReply TooMany .number → ⊥
-  unfolding solutionOf plainSolution unblockedSolution
-  not-over Plain e = omega arith
-  not-over Unblocked e = go (isKept (deleted .kept) 0) e
-    where
-      go : (b : Bool) → answerReply ((if b then freshSolution else noTable (None (deleted .rounds))) .answer) .number ≡ answerReply TooMany .number → ⊥
-      go true e = omega arith
-      go false e = omega arith
+-- only one state too many gives 11
+not-over : (k : Skid) (w : Wanted) → answerReply (solutionOf w k (plain k) .answer) .number ≡ answerReply TooMany .number → ⊥
+unfolding solutionOf plainSolution
+not-over k Plain e = omega arith
+not-over k Unblocked e = either-solution k (λ s. answerReply (s .answer) .number ≡ answerReply TooMany .number → ⊥) (λ e. omega arith) (λ e. omega arith) e
 
 module _ (mode : ℕ) (context specification sets next : List ℕ) (reply : Reply) (sets′ next′ : List ℕ) (done : Solved mode context specification sets next reply sets′ next′) where
   abbrev k : Skid
