@@ -6,6 +6,8 @@
 // when it is asked whether it blocks, where its rows are looked at for each i. There are at most 512 times 64 triples. Each sweep but the last
 // finds one at least. Beside the triples that it works off, it goes three times over the sets of the controller's states: to see what is new in
 // them, whether it has changed any (up to the first), and to hand them on.
+#![tactic(auto)]
+
 pub mod checking; // the check of three records
 mod complete; // incomplete: a state that the controller reaches has no row for some u
 mod judging; // what the triples are asked
@@ -21,7 +23,7 @@ use verdicts::Verdict;
 
 // The reply to reading a controller, and its U and V. For C: seven numbers of 32 bits.
 #[repr(C)]
-#[derive(Drop)]
+#[derive(Clone, Copy)]
 pub struct Controller {
     pub number: u32,
     pub record: u32,

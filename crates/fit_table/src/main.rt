@@ -1,4 +1,6 @@
 // Reads a context record, a specification record and a controller record from standard input, and writes whether the controller fits, or the refusal.
+#![tactic(auto)]
+
 use libc::{STDIN_FILENO, STDOUT_FILENO};
 use text::fitting::{FIT_LIMIT, FIT_TEXT, fit_text};
 

@@ -34,7 +34,7 @@ module _ {E : Type 0} (f : Option ℕ → E → Option ℕ) (stopped : (x : E) �
 
     -- it stops where one of its steps does; otherwise it adds what each of them adds
     pub fold_law : (l : List E) (s : ℕ) → Outcome (Some l L) (AnyR l) s (foldl f (some s) l)
-    fold_law [] s = (λ h. Memᴰ.not_nil h.1, λ q. (inl, ⊎_elim (λ m. m) (λ h. absurd (Memᴰ.not_nil h.1))))
+    fold_law [] s = (λ h. Memᴰ.not-nil h.1, λ q. (inl, ⊎_elim (λ m. m) (λ h. absurd (Memᴰ.not-nil h.1))))
     fold_law (x ∷ l) s = first (f (some s) x) (law x s) (fold_law l)
       where
         rest : (s₁ : ℕ) → Outcome (L x) (R x) s (some s₁) → (o : Option ℕ) → Outcome (Some l L) (AnyR l) s₁ o → Outcome (Some (x ∷ l) L) (AnyR (x ∷ l)) s o

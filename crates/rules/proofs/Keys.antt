@@ -98,6 +98,7 @@ KeysRise k [] = Unit {0}
 KeysRise k (r ∷ rows) = ((r' : List ℕ) → Memᴰ r' rows → less (take k r) (take k r') ≡ true) × KeysRise k rows
 
 pub rise_one : (k : ℕ) (rows : List (List ℕ)) → KeysRise k rows → (r r' : List ℕ) → Memᴰ r rows → Memᴰ r' rows → take k r ≡ take k r' → r ≡ r'
+rise_one k [] h r r' x4 _ e = elim x4 [ ]
 rise_one k (x ∷ rows) h r r' (Memᴰ.head a) (Memᴰ.head b) e = a ∙ sym b
 rise_one k (x ∷ rows) h r r' (Memᴰ.head a) (Memᴰ.tail b) e = absurd (less_one (take k x) (take k r') (ap (take k) (sym a) ∙ e) (h.0 r' b))
 rise_one k (x ∷ rows) h r r' (Memᴰ.tail a) (Memᴰ.head b) e = absurd (less_one (take k x) (take k r) (ap (take k) (sym b) ∙ sym e) (h.0 r a))

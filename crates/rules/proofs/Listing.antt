@@ -121,7 +121,7 @@ module _ (m n states : ℕ) (hm : 0 < m) (hn : 0 < n) where
 
   pub listing_fits : m ≤ 256 → n ≤ 256 → states ≤ 65536 → (p : ℕ) (ts : List ℕ) → p + length ts ≤ states * (m * n) → StatesIn states ts → (r : List ℕ) → Memᴰ r (listing m n p ts) → Fit controller_layout.field_sizes r
   unfolding listing controller_layout
-  listing_fits lm ln ls p [] few each r mr = absurd (Memᴰ.not_nil mr)
+  listing_fits lm ln ls p [] few each r mr = absurd (Memᴰ.not-nil mr)
   listing_fits lm ln ls p (t ∷ ts) few each r mr =
       let rest = listing_fits lm ln ls (suc p) ts (omega arith) (λ t m. each t (Memᴰ.tail m)) r in
       ⊎_elim

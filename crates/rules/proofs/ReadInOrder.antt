@@ -110,7 +110,7 @@ module _ (xs : List ℕ) (few : length xs ≤ absent) where
 -- what a table of states leads to are its states
 targets_below : (n : ℕ) (ns : List ℕ) → ((p : ℕ) → (get_or ns p absent ≡ absent) ⊎ (get_or ns p absent < n)) → AllBelow n (targets (map there ns))
 unfolding targets
-targets_below n [] entry j m = absurd (Memᴰ.not_nil m)
+targets_below n [] entry j m = absurd (Memᴰ.not-nil m)
 targets_below n (x ∷ ns) entry j m = go (eqb x absent) refl (targets_below n ns (λ p. entry (suc p)) j) m
   where
     go : (b : Bool) → eqb x absent ≡ b → (Memᴰ j (targets (map there ns)) → j < n) → Memᴰ j (targets ((if b then none else some x) ∷ map there ns)) → j < n

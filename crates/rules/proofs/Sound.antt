@@ -50,7 +50,7 @@ or_false false b e = (refl, e)
 
 pub rows_length : (ws : List ℕ) (n : ℕ) (b r : List ℕ) → Memᴰ r (rows_of ws n b) → length r ≡ length ws
 unfolding rows_of
-rows_length ws zero b r m = absurd (Memᴰ.not_nil m)
+rows_length ws zero b r m = absurd (Memᴰ.not-nil m)
 rows_length ws (suc n) b r (Memᴰ.head e) = ap length e ∙ length_numbers ws b
 rows_length ws (suc n) b r (Memᴰ.tail m) = rows_length ws n (drop (total ws) b) r m
 
@@ -87,6 +87,7 @@ module _ (l : Layout) where
       (row_sound counts k before r e₁, rows_rising counts (suc k) (key_of l r) rs e₂)
 
   fields_below_lem : (counts before : List ℕ) (rows : List (List ℕ)) → Rising counts before rows → (r : List ℕ) → Memᴰ r rows → T (fields_below counts r l.below)
+  fields_below_lem counts before [] h r x'' = elim x'' [ ]
   fields_below_lem counts before (x ∷ rows) h r (Memᴰ.head e) = subst (λ r. T (fields_below counts r l.below)) (sym e) h.0.fields
   fields_below_lem counts before (x ∷ rows) h r (Memᴰ.tail m) = fields_below_lem counts (key_of l x) rows h.1 r m
 
@@ -97,7 +98,7 @@ module _ (l : Layout) where
 
     later_above : (counts x : List ℕ) (rows : List (List ℕ)) → length x ≡ size → ((r : List ℕ) → Memᴰ r rows → length r ≡ size)
         → Rising counts (key_of l x) rows → (r : List ℕ) → Memᴰ r rows → less (key_of l x) (key_of l r) ≡ true
-    later_above counts x [] sx sizes h r m = absurd (Memᴰ.not_nil m)
+    later_above counts x [] sx sizes h r m = absurd (Memᴰ.not-nil m)
     later_above counts x (y ∷ rows) sx sizes h r m =
         go m (less_other (key_of l y) (key_of l x) (key_length y x (sizes y (Memᴰ.head refl)) sx) h.0.new h.0.up)
         (λ m'. later_above counts y rows (sizes y (Memᴰ.head refl)) (λ r m. sizes r (Memᴰ.tail m)) h.1 r m')

@@ -79,7 +79,7 @@ module _ (m n : ℕ) where
   unfolding listing
   listed zero p [] rise each from below = refl
   listed zero p (r ∷ rows) rise each from below = let h = from r (Memᴰ.head refl) in let h' = below r (Memᴰ.head refl) in absurd (omega arith)
-  listed (suc k) p [] rise each from below = listed k (suc p) [] tt each (λ r m. absurd (Memᴰ.not_nil m)) (λ r m. absurd (Memᴰ.not_nil m))
+  listed (suc k) p [] rise each from below = listed k (suc p) [] tt each (λ r m. absurd (Memᴰ.not-nil m)) (λ r m. absurd (Memᴰ.not-nil m))
   listed (suc k) p (r ∷ rows) rise each from below = ⊎_elim
       (λ (e : p ≡ row_place m n r).
       let past : (r' : List ℕ) → Memᴰ r' rows → p < row_place m n r' = λ r' m. let h = after r' m in omega arith in

@@ -44,7 +44,7 @@ module _ (at : List ℕ → ℕ) where
   entered_row : (rows : List (List ℕ)) (acc r : List ℕ) → Memᴰ r rows → at r < length acc → ((r' : List ℕ) → Memᴰ r' rows → at r' ≡ at r → get_or r' 3 0 ≡ get_or r 3 0)
       → get_or (entered at acc rows) (at r) absent ≡ get_or r 3 0
   unfolding Entered
-  entered_row [] acc r m h one = absurd (Memᴰ.not_nil m)
+  entered_row [] acc r m h one = absurd (Memᴰ.not-nil m)
   entered_row (x ∷ rows) acc r (Memᴰ.head e) h one = ⊎_elim
       (λ e'. e' ∙ ap (λ y. get_or (set acc (at y) (get_or y 3 0)) (at r) absent) (sym e) ∙ get_or-set_same acc (at r) (get_or r 3 0) absent h)
       (λ y. y.3 ∙ one y.0 (Memᴰ.tail y.1) y.2)

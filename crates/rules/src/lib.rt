@@ -1,5 +1,7 @@
 // What document 01 says, as definitions over lists of numbers, with the laws about them; and the types of what is read and replied.
 // A reader of the product's promises reads the specs of this crate. Its only code makes replies.
+#![tactic(auto)]
+
 ghost use Rattle.rules.specs.Replies.{Succeeded, RefusedAt, Refused};
 
 use pairs::CtxState;
@@ -23,7 +25,7 @@ pub const ABSENT: u16 = 65535;
 
 // Every reply of the product. For C: five numbers of 32 bits.
 #[repr(C)]
-#[derive(Drop)]
+#[derive(Clone, Copy)]
 pub struct Reply {
     pub number: u32,
     pub record: u32,
@@ -33,7 +35,7 @@ pub struct Reply {
 }
 
 // The three kinds of record.
-#[derive(Drop)]
+#[derive(Clone, Copy)]
 pub enum Kind {
     Context,
     Specification,
@@ -41,7 +43,7 @@ pub enum Kind {
 }
 
 // What reading a record finds: nothing wrong, or the first refusal of 1 to 7, with the row for 5 to 7.
-#[derive(Drop)]
+#[derive(Clone, Copy)]
 pub enum Fault {
     Sound,
     Length,
@@ -54,7 +56,7 @@ pub enum Fault {
 }
 
 // The counts of a record that was read; 0 where its kind has no such count, and all 0 on a refusal.
-#[derive(Drop)]
+#[derive(Clone, Copy)]
 pub struct Counts {
     pub i: u32,
     pub o: u32,
@@ -65,14 +67,14 @@ pub struct Counts {
 }
 
 // A reply, and beside it the counts of the record.
-#[derive(Drop)]
+#[derive(Clone, Copy)]
 pub struct Reading {
     pub reply: Reply,
     pub counts: Counts,
 }
 
 // A row of a context.
-#[derive(Drop)]
+#[derive(Clone, Copy)]
 pub struct ContextRow {
     pub state: CtxState,
     pub i: u32,
@@ -83,7 +85,7 @@ pub struct ContextRow {
 }
 
 // The rows of a context state: from row `first` up to row `end`, which is left out.
-#[derive(Drop)]
+#[derive(Clone, Copy)]
 pub struct StateRows {
     pub first: usize,
     pub end: usize,

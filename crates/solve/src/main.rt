@@ -1,4 +1,6 @@
 // Reads a mode byte, a context record and a specification record from standard input, and writes the answer's table, or the refusal.
+#![tactic(auto)]
+
 use libc::{STDIN_FILENO, STDOUT_FILENO};
 use text::solving::{SOLVE_LIMIT, SOLVE_TEXT, solve_text};
 

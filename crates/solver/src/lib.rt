@@ -3,6 +3,8 @@
 // It always ends, and its cost is bounded. There are at most 512 states, and each has at most 16 letters. For each of these the pairs of the state's set are
 // worked off once, each by the rows of its context state alone, and the set that they lead to is looked for among those found so far. In deletion a state is
 // tested once, and once more after each round in which it lost a step.
+#![tactic(auto)]
+
 mod deletion; // rounds that delete the states that do not pass
 mod discovery; // the sets reached, numbered by first discovery
 pub mod entry; // the entry for C

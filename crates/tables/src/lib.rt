@@ -1,5 +1,7 @@
 // What the fit check and the solver share: the records of a skid and their counts, the steps of a next table, the rows of each context state, and
 // zeros behind what was written.
+#![tactic(auto)]
+
 pub mod rows; // rows of the context: the specification's step by a row, and which rows a state has
 pub mod skids; // the two records of a skid, and their counts side by side
 pub mod steps; // a next table, by state and letter
@@ -13,7 +15,7 @@ pub const SPECIFICATION_NUMBERS: usize = 4096;
 pub const INDEX: usize = 65;
 
 // The counts of a skid, and of the table beside it.
-#[derive(Drop)]
+#[derive(Clone, Copy)]
 pub struct Sizes {
     pub inputs: usize,
     pub outputs: usize,

@@ -6,7 +6,7 @@ use records::readers::{read_context, read_specification};
 use rules::{Counts, Reply, succeeded};
 
 // A reply, and beside it the counts of both records; all counts 0 on a refusal.
-#[derive(Drop)]
+#[derive(Clone, Copy)]
 pub struct SkidReading {
     pub reply: Reply,
     pub context: Counts,

@@ -66,7 +66,7 @@ digits_value n = decimal_value (suc n) n (omega arith)
 
 decimal_range : (f n d : ℕ) → Memᴰ d (decimal f n) → (48 ≤ d) × (d ≤ 57)
 unfolding decimal
-decimal_range zero n d m = absurd (Memᴰ.not_nil m)
+decimal_range zero n d m = absurd (Memᴰ.not-nil m)
 decimal_range (suc f) n d m = go (ltb n 10) refl (decimal_range f (n / 10) d) m
   where
     digit : (k : ℕ) → k < 10 → Memᴰ d ((48 + k) ∷ []) → (48 ≤ d) × (d ≤ 57)

@@ -1,4 +1,6 @@
 // The bytes that the two programs print, and how their input is cut.
+#![tactic(auto)]
+
 pub mod cutting;
 pub mod fitting;
 mod lines;

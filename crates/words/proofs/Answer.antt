@@ -25,7 +25,7 @@ numbers (suc n) = n ∷ numbers n
 
 pub numbers_listed : (n q : ℕ) → (q < n) ↔ Memᴰ q (numbers n)
 unfolding numbers
-numbers_listed zero q = (λ h. absurd (not-suc-le-zero h), λ d. absurd (Memᴰ.not_nil d))
+numbers_listed zero q = (λ h. absurd (not-suc-le-zero h), λ d. absurd (Memᴰ.not-nil d))
 numbers_listed (suc n) q = (
   λ h. ⊎_elim (λ e. Memᴰ.head e) (λ h. Memᴰ.tail ((numbers_listed n q).0 h)) (eq-or-lt_of_le (le_of_suc-le-suc h)),
   λ d. ⊎_elim (λ e. omega arith) (λ d. let h = (numbers_listed n q).1 d in omega arith) (Memᴰ.cases_cons d),

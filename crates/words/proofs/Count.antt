@@ -58,7 +58,7 @@ lost false b' = inr (λ t. absurd t)
 module _ {Q : Type 0} (k k' : Q → Bool) where
   -- a state of the list that k keeps and k' does not, or there is none
   pub find : (l : List Q) → ((q : Q) × Memᴰ q l × T (k q) × (¬ T (k' q))) ⊎ ((q : Q) → Memᴰ q l → T (k q) → T (k' q))
-  find [] = inr (λ q m t. absurd (Memᴰ.not_nil m))
+  find [] = inr (λ q m t. absurd (Memᴰ.not-nil m))
   find (p ∷ l) = go (lost (k p) (k' p)) (find l)
     where
       go : (T (k p) × (¬ T (k' p))) ⊎ (T (k p) → T (k' p))
@@ -76,5 +76,6 @@ module _ {Q : Type 0} (k k' : Q → Bool) where
 
     pub count_less : (q : Q) (l : List Q) → Memᴰ q l → T (k q) → ¬ T (k' q) → count k' l < count k l
     unfolding count tally
+    count_less q [] m t f = elim m [ ]
     count_less q (p ∷ l) (Memᴰ.head e) t f = tally_lost (k p) (k' p) (subst (λ q. T (k q)) e t) (subst (λ q. ¬ T (k' q)) e f) (count_le l)
     count_less q (p ∷ l) (Memᴰ.tail d) t f = tally_more (k p) (k' p) (fewer p) (count_less q l d t f)

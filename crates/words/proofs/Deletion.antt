@@ -23,7 +23,7 @@ after_letter X l w = X (l ∷ w)
 
 module _ (s : System) (m : SetAutomaton s) where
   open s use {U, R, Input, Step, input, outside, A, a0, ctx, C, c0, spc, asked}
-  open m use {Q, ok, has, start, next, start_ok, next_ok, start_Has, next_has}
+  open m use {Q, ok, has, start, next, start_ok, next_ok, start_has, next_has}
 
   -- words through kept states
 
@@ -70,7 +70,7 @@ module _ (s : System) (m : SetAutomaton s) where
       within = (stays_within_iff_plain s (Through s m k start) (λ p z. through_closed k p z start)).1
           (λ w h. (plain_iff_runs s m w).1 (through→runs k w start h));
       signals = λ w. through_signals w start start_ok;
-      continues = λ α r t. through_continues α start a0 c0 start_ok ((start_Has a0 c0).1 (refl, refl)) r t;
+      continues = λ α r t. through_continues α start a0 c0 start_ok ((start_has a0 c0).1 (refl, refl)) r t;
     }
 
   -- after the last round every kept state passes, so what is left is a good controller
@@ -112,8 +112,8 @@ module _ (s : System) (m : SetAutomaton s) where
   good→at-start X g = record {
     controller = g.controller;
     signals = g.signals;
-    within = λ a c h. subst₂ (λ a c. StaysWithin (start_at s a c) X) (sym ((start_Has a c).0 h).0) (sym ((start_Has a c).0 h).1) g.within;
-    continues = λ a c h. subst₂ (λ a c. LeavesContinuation (start_at s a c) X) (sym ((start_Has a c).0 h).0) (sym ((start_Has a c).0 h).1) g.continues;
+    within = λ a c h. subst₂ (λ a c. StaysWithin (start_at s a c) X) (sym ((start_has a c).0 h).0) (sym ((start_has a c).0 h).1) g.within;
+    continues = λ a c h. subst₂ (λ a c. LeavesContinuation (start_at s a c) X) (sym ((start_has a c).0 h).0) (sym ((start_has a c).0 h).1) g.continues;
   }
 
   -- every good controller runs through the states that k keeps

@@ -18,7 +18,7 @@ first_leads step s l w e = let (s', f, r) = first_step step s l w (is_some e) in
 
 module _ (s : System) (m : SetAutomaton s) where
   open s use {Step, A, a0, ctx, C, c0, spc}
-  open m use {Q, ok, has, start, next, start_ok, next_ok, start_Has, next_has}
+  open m use {Q, ok, has, start, next, start_ok, next_ok, start_has, next_has}
 
   -- present steps lead from states that count to states that count
   ok_from : (w : List (Letter s)) (q : Q) {q' : Q} → ok q → run next q w ≡ some q' → ok q'
@@ -62,9 +62,9 @@ module _ (s : System) (m : SetAutomaton s) where
   pair_after w q e a c = (
     λ h.
         let (a₁, c₁, k, r) = pair_from w start a c start_ok e h in
-        let (i, j) = (start_Has a₁ c₁).0 k in
+        let (i, j) = (start_has a₁ c₁).0 k in
         subst₂ (λ a₁ c₁. PairAfter (start_at s a₁ c₁) w a c) i j r,
     λ r.
         let (α, over, t, o) = r in
-        pair_to α start a0 a c0 c start_ok ((start_Has a0 c0).1 (refl, refl)) (ap (run next start) over ∙ e) t o,
+        pair_to α start a0 a c0 c start_ok ((start_has a0 c0).1 (refl, refl)) (ap (run next start) over ∙ e) t o,
   )

@@ -32,7 +32,7 @@ start_at s a c = record {
 
 module _ (s : System) (m : SetAutomaton s) where
   open s use {Step, outside, A, a0, ctx, C, c0, spc}
-  open m use {Q, ok, has, start, next, start_ok, next_ok, start_Has, next_has}
+  open m use {Q, ok, has, start, next, start_ok, next_ok, start_has, next_has}
 
   -- a present step: every step of the context over it has its row, and its set holds the pair reached
   pub joint_step : {q q' : Q} {a a' : A} {c : C} {x : Step} → ok q → next q (letter s x) ≡ some q' → has q a c → ctx a x ≡ some a'
@@ -82,8 +82,8 @@ module _ (s : System) (m : SetAutomaton s) where
 
   pub plain_iff_runs : (w : List (Letter s)) → Plain s w ↔ Runs next start w
   plain_iff_runs w = (
-    λ h. plain→runs w start start_ok (λ a c k. let e = (start_Has a c).0 k in subst₂ (λ a c. Plain (start_at s a c) w) (sym e.0) (sym e.1) h),
-    λ r p z e α k o. runs→within α z start_ok ((start_Has a0 c0).1 (refl, refl)) k (subst (λ w. Runs next start w) (sym e ∙ ap (λ p. p ++ z) (sym o)) r),
+    λ h. plain→runs w start start_ok (λ a c k. let e = (start_has a c).0 k in subst₂ (λ a c. Plain (start_at s a c) w) (sym e.0) (sym e.1) h),
+    λ r p z e α k o. runs→within α z start_ok ((start_has a0 c0).1 (refl, refl)) k (subst (λ w. Runs next start w) (sym e ∙ ap (λ p. p ++ z) (sym o)) r),
   )
 
   -- every step from the empty set is present and leads to the empty set

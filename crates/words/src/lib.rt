@@ -1,1 +1,2 @@
 // The theory is in specs/ and proofs/. It has no code.
+#![tactic(auto)]

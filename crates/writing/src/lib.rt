@@ -1,4 +1,6 @@
 // Writing of a controller record, from a start place in the caller's buffer onwards.
+#![tactic(auto)]
+
 ghost use Rattle.std.specs.Prelude.{◌≡◌, [], ◌∷◌, ◌+◌, ◌<◌, ◌≤◌, eqb, length, take};
 ghost use Rattle.pairs.specs.Scans.{if◌then◌else◌};
 ghost use Rattle.rules.specs.Writing.{controller_bytes, ControllerWritten};
@@ -9,7 +11,7 @@ use records::faults::is_in_limits;
 use rules::{ABSENT, CONTROLLER, Kind, Reply, refused, refused_at, succeeded};
 
 // The places of a next table: how many have a row, and the first that leads to no state; as many as the places where there is none.
-#[derive(Drop)]
+#[derive(Clone, Copy)]
 pub struct Survey {
     pub rows: usize,
     pub bad: usize,

@@ -1,0 +1,15 @@
+use borrow.Author.Rules.{rules}
+use Rattle.records.proofs.LookupLaws.{state_offset_fits, state_place_fits, state_near, state_read}
+use Rattle.records.proofs.lookup.state_of.Goals as goal
+
+pub overflow_mul-k : goal.overflow_mul-k
+overflow_mul-k c = record { fits = search state_offset_fits }
+
+pub overflow_add-k : goal.overflow_add-k
+overflow_add-k c = record { fits = search state_place_fits }
+
+pub number_at-requires : goal.number_at-requires
+number_at-requires c = (search rules, search rules, search state_near)
+
+pub returns : goal.returns
+returns c = search state_read
