@@ -7,15 +7,15 @@ use Rattle.records.proofs.layouts.counts_of.Goals as goal
 
 pub numbers_at-requires : goal.numbers_at-requires
 unfolding all
-numbers_at-requires c = (sizes _ tt tt, search rules)
+numbers_at-requires c = record { sizes = sizes _ tt tt; at_in_bounds = search rules }
 
 pub numbers_at-requires-in-Specification : goal.numbers_at-requires-in-Specification
 unfolding all
-numbers_at-requires-in-Specification c = (sizes _ tt tt, search rules)
+numbers_at-requires-in-Specification c = record { sizes = sizes _ tt tt; at_in_bounds = search rules }
 
 pub numbers_at-requires-in-Controller : goal.numbers_at-requires-in-Controller
 unfolding all
-numbers_at-requires-in-Controller c = (sizes _ tt tt, search rules)
+numbers_at-requires-in-Controller c = record { sizes = sizes _ tt tt; at_in_bounds = search rules }
 
 pub returns-in-Context : goal.returns-in-Context
 unfolding context_layout

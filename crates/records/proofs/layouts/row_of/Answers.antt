@@ -11,15 +11,15 @@ overflow_add-at c = record { fits = search row_start_fits }
 
 pub numbers_at-requires : goal.numbers_at-requires
 unfolding all
-numbers_at-requires c = (sizes _ tt tt, search row_starts)
+numbers_at-requires c = record { sizes = sizes _ tt tt; at_in_bounds = search row_starts }
 
 pub numbers_at-requires-in-Specification : goal.numbers_at-requires-in-Specification
 unfolding all
-numbers_at-requires-in-Specification c = (sizes _ tt tt, search row_starts)
+numbers_at-requires-in-Specification c = record { sizes = sizes _ tt tt; at_in_bounds = search row_starts }
 
 pub numbers_at-requires-in-Controller : goal.numbers_at-requires-in-Controller
 unfolding all
-numbers_at-requires-in-Controller c = (sizes _ tt tt, search row_starts)
+numbers_at-requires-in-Controller c = record { sizes = sizes _ tt tt; at_in_bounds = search row_starts }
 
 pub returns-in-Context : goal.returns-in-Context
 unfolding context_layout

@@ -1,10 +1,9 @@
-use native.Mathlib.Nat.{le_refl}
-use borrow.Author.Rules.{zero≤}
+use Rattle.std.proofs.Common.{arith}
 use Rattle.records.proofs.TableLaws.{painted_none, painted_length, painted_inside, painted_more, painted_all}
 use Rattle.records.proofs.tables.blank.Goals as goal
 
 pub loop-p-init : goal.loop-p-init
-loop-p-init c = search (painted_none, zero≤, le_refl)
+loop-p-init c = search (painted_none, arith)
 
 pub bounds-table-p : goal.bounds-table-p
 bounds-table-p c = search painted_inside
