@@ -62,8 +62,8 @@ module _ (p : ℕ → Bool) where
       go : (b : Bool) → first_place p (ts ++ t ∷ []) ≡ (if eqb (first_place p ts) (length ts) then first_place p ts + 1 else first_place p ts)
           → (if b then 0 else suc (first_place p (ts ++ t ∷ [])))
           ≡ (if eqb (if b then 0 else suc (first_place p ts)) (suc (length ts)) then (if b then 0 else suc (first_place p ts)) + 1 else if b then 0 else suc (first_place p ts))
-      go true h = rw compare.zero_suc
-      go false h = rw compare.suc_suc (ap suc h ∙ split (eqb (first_place p ts) (length ts)))
+      go true h = rw compare.zero-suc
+      go false h = rw compare.suc-suc (ap suc h ∙ split (eqb (first_place p ts) (length ts)))
 
 -- a place is bad that is neither 65535 nor a state
 abbrev is_bad : ℕ → ℕ → Bool
