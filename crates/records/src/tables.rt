@@ -93,7 +93,7 @@ pub fn zero_after(next: &mut [u16], size: usize)
 }
 
 // The specification's next states: where the bytes are a legal record and the table is long enough, its step from c on i and o stands at
-// place typeof.c.I.O + typeof.i.O + o, and 65535 where it has none. What is behind them stays; a table that is too short stays whole.
+// place c·I·O + i·O + o, and 65535 where it has none. What is behind them stays; a table that is too short stays whole.
 pub fn fill_specification(b: &[u8], table: &mut [u16])
     ensures { SpecificationFilled b.now table.old table.new }
 {
