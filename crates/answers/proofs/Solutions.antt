@@ -1,9 +1,9 @@
 -- The solutions that solving can give of a skid: its deletion and its fresh numbering by name, and which of them is due.
 -- Assumes nothing.
+use Rattle.std.specs.Prelude.{if◌then◌else◌}
 use mathlib.Core.Path.{◌≡◌}
 use mathlib.Core.Bool.{Bool, true, false}
 use lib.ListN.{length}
-use Rattle.pairs.specs.Scans.{if◌then◌else◌}
 use Rattle.rules.specs.Tables.{Skid}
 use Rattle.rules.specs.Discover.{Numbered}
 use Rattle.rules.specs.Continues.{every_input}

@@ -1,13 +1,13 @@
 -- The rounds of deletion that the unblocked answer counts: at most as many as there are plain states, each of them deletes something, and a further one would
 -- delete nothing. And so the rounds of every reply of solving.
 -- Assumes nothing.
+use Rattle.std.specs.Prelude.{if◌then◌else◌}
 use mathlib.Core.Path.{◌≡◌, refl, sym, subst}
 use mathlib.Core.Bool.{Bool, true, false}
 use mathlib.Core.List.{List}
 use Prim.Native.Nat.{ℕ, suc, ◌≤◌, ◌<◌}
 use native.Mathlib.Omega.{arith}
 use lib.ListN.{length}
-use Rattle.pairs.specs.Scans.{if◌then◌else◌}
 use Rattle.rules.specs.declared.Reply.{Reply}
 use Rattle.rules.specs.Layouts.{Layout, context_layout, specification_layout}
 use Rattle.rules.specs.Faults.{fault_number, fault_row, is_sound, fault}

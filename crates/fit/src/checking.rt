@@ -18,6 +18,7 @@ use tables::{SPECIFICATION_NUMBERS, Sizes};
 use verdicts::Verdict;
 
 // Refusals 8, 9 and 10 of three records that were read: of the counts of context, specification and controller, and of so many lent numbers.
+#[tactic(auto, using(crate::proofs::MatchLaws::product_over))]
 fn match_refusal(c: Counts, s: Counts, t: Counts, room: usize) -> Reply
     ensures { result ≡ match_refusal c s t room }
 {

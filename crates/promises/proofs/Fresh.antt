@@ -1,6 +1,7 @@
 -- The fresh table is the kept part of the plain table under new names: its steps are the kept steps of the states by their old numbers, and a word of
 -- it leads in the plain table to the old number of the state.
 -- Assumes nothing.
+use Rattle.std.specs.Prelude.{if◌then◌else◌}
 use mathlib.Core.Path.{◌≡◌, refl, sym, ◌∙◌}
 use mathlib.Core.Bool.{Bool, true, false, cond}
 use mathlib.Core.Option.{Option, none, some, map, none-ne-some}
@@ -12,7 +13,6 @@ use Rattle.words.specs.Words.{run}
 use Rattle.words.specs.System.{Letter}
 use Rattle.words.specs.Renamed.{if_kept, Renamed}
 use Rattle.words.proofs.Words.{first_step, is_some, run_cons}
-use Rattle.pairs.specs.Scans.{if◌then◌else◌}
 use Rattle.rules.specs.Limits.{absent}
 use Rattle.rules.specs.Tables.{Skid}
 use Rattle.rules.specs.Discover.{Numbered}

@@ -1,6 +1,7 @@
 -- Two tables that number the same states of words, both in the order in which they are met, are one table: each state of the one is named by the state of the
 -- other that its words lead to, and names that are met in their order leave one order only.
 -- Assumes nothing.
+use Rattle.std.specs.Prelude.{if◌then◌else◌}
 use mathlib.Core.Path.{◌≡◌, refl, sym, ap, subst, ◌∙◌}
 use mathlib.Core.Logic.{◌⊎◌, inl, inr, ⊎_elim}
 use mathlib.Core.Bool.{Bool, true, false}
@@ -13,7 +14,7 @@ use borrow.Author.Tests.{eqb-true}
 use Rattle.words.specs.Words.{run}
 use Rattle.words.specs.System.{Letter}
 use Rattle.words.proofs.Words.{run_last}
-use Rattle.pairs.specs.Scans.{if◌then◌else◌, left}
+use Rattle.pairs.specs.Scans.{left}
 use Rattle.pairs.proofs.Lists.{get_d_map, at_mem, length_left, get_d_left, left_mem, mem_left}
 use Rattle.rules.specs.Limits.{absent}
 use Rattle.rules.specs.NextTables.{there}

@@ -1,6 +1,7 @@
 -- The test of a state says what the theory says: it passes exactly if "(i) for each u there is a v whose next state is kept, and (ii) for each of its
 -- pairs and each i below I there is a context row from a on i whose (u, v) is present and leads to a kept state".
 -- Assumes nothing.
+use Rattle.std.specs.Prelude.{if◌then◌else◌}
 use mathlib.Core.Path.{◌≡◌, refl, sym, ap, subst, ◌∙◌}
 use mathlib.Core.Logic.{◌↔◌, ∥∥₁_elim}
 use mathlib.Core.Bool.{Bool, true, false, ◌&&◌}
@@ -15,7 +16,7 @@ use Rattle.words.specs.Deletion.{Passes, Finite}
 use Rattle.words.proofs.Words.{known, is_some}
 use Rattle.words.proofs.Codes.{same_code}
 use Rattle.words.proofs.Answer.{numbers, numbers_listed}
-use Rattle.pairs.specs.Scans.{if◌then◌else◌, all, any, left}
+use Rattle.pairs.specs.Scans.{all, any, left}
 use Rattle.pairs.specs.Sets.{member, pair_place, context_of, specification_of}
 use Rattle.pairs.proofs.Lists.{get_d_map, length_left, get_d_left, left_mem, mem_left}
 use Rattle.pairs.proofs.Scans.{imp_yes, both_yes, yes_both, all_yes, yes_all, any_yes, yes_any}

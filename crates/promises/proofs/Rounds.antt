@@ -1,5 +1,6 @@
 -- The rounds of the definitions are the rounds of the theory: the list of what is kept after each of them, and how many are counted.
 -- Assumes nothing.
+use Rattle.std.specs.Prelude.{if◌then◌else◌}
 use mathlib.Core.Path.{◌≡◌, refl, sym, ap, ap₂, subst, ◌∙◌}
 use mathlib.Core.Logic.{⊎_elim}
 use mathlib.Core.Bool.{Bool, true, false, ◌&&◌}
@@ -12,7 +13,7 @@ use Rattle.words.specs.Sets.{SetAutomaton}
 use Rattle.words.specs.Deletion.{Finite, after, Deletes, Rounds}
 use Rattle.words.proofs.Answer.{numbers, numbers_listed}
 use Rattle.words.proofs.Count.{find}
-use Rattle.pairs.specs.Scans.{if◌then◌else◌, left}
+use Rattle.pairs.specs.Scans.{left}
 use Rattle.pairs.proofs.Lists.{length_left}
 use Rattle.rules.specs.Tables.{Skid}
 use Rattle.rules.specs.Discover.{Numbered}

@@ -1,5 +1,6 @@
 -- Solving refuses with 1 to 10 exactly the inputs that are not solvable; all others are answered, each with the one of four solutions that is due.
 -- Assumes nothing.
+use Rattle.std.specs.Prelude.{if◌then◌else◌}
 use mathlib.Core.Path.{◌≡◌, refl, sym, ap, subst, ◌∙◌}
 use mathlib.Core.Logic.{◌↔◌, ◌⊎◌, ⊎_elim, ⊎_map}
 use mathlib.Core.Bool.{Bool, true, false, not, ◌&&◌, true≢false}
@@ -11,7 +12,6 @@ use lib.Dec.{T, leb, eqb, leb→le}
 use lib.ListN.{length, drop, replicate}
 use borrow.Author.Tests.{le-leb}
 use mir.Facts.{and_yes}
-use Rattle.pairs.specs.Scans.{if◌then◌else◌}
 use Rattle.pairs.specs.Lent.{filled, encoded_sets}
 use Rattle.rules.specs.declared.Reply.{Reply}
 use Rattle.rules.specs.Limits.{set_numbers, next_numbers}

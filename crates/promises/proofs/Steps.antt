@@ -1,6 +1,7 @@
 -- The step between sets of the definitions is that of the set automaton: absent exactly if it leaves the specification, otherwise it leads to exactly
 -- the pairs reached.
 -- Assumes nothing.
+use Rattle.std.specs.Prelude.{if◌then◌else◌}
 use mathlib.Core.Path.{◌≡◌, refl, sym, ap, subst, ◌∙◌}
 use mathlib.Core.Logic.{inl, inr, ⊎_elim}
 use mathlib.Core.Bool.{Bool, true, false, ◌&&◌}
@@ -12,7 +13,6 @@ use mir.Facts.{and_yes, yes_and}
 use Rattle.words.specs.System.{Letter, letter}
 use Rattle.words.specs.Sets.{Leaves, Reached, StepLaw}
 use Rattle.words.proofs.Words.{known, is_some}
-use Rattle.pairs.specs.Scans.{if◌then◌else◌}
 use Rattle.pairs.specs.Sets.{member, empty, pair_place, context_of, specification_of}
 use Rattle.pairs.proofs.Sets.{members_add, empty_set, pair_context, pair_specification}
 use Rattle.rules.specs.Tables.{Skid, row_state, row_i, row_o, row_next, row_letter, row_spec_next, spec_next, pairs}

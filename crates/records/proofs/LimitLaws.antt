@@ -1,5 +1,6 @@
 -- What `is_within` and `is_in_limits` need: the counts from place k on decide where those before it are within their limits; the limits of each kind.
 -- Assumes nothing.
+use Rattle.std.specs.Prelude.{if◌then◌else◌}
 use mathlib.Core.Path.{◌≡◌, sym, ◌∙◌}
 use mathlib.Core.Bool.{Bool, true, false, ◌&&◌}
 use mathlib.Core.List.{List, [], ◌∷◌}
@@ -9,7 +10,6 @@ use lib.Dec.{leb}
 use lib.ListN.{length, get_or, take, drop, length-take}
 use lib.Seq.{get_or-take, length-take-le}
 use borrow.Author.Tests.{le-leb, lt-leb}
-use Rattle.pairs.specs.Scans.{if◌then◌else◌}
 use Rattle.pairs.proofs.Scans.{with_step, with_done}
 use Rattle.rules.specs.declared.Kind.{Kind}
 use Rattle.rules.specs.declared.Kind.TheVariants.{Context, Specification, Controller}

@@ -1,5 +1,6 @@
 -- What the tests of a row need: refusals 5 to 7.
 -- Assumes nothing.
+use Rattle.std.specs.Prelude.{if◌then◌else◌}
 use mathlib.Core.Path.{◌≡◌, refl, sym, ap, ◌∙◌}
 use mathlib.Core.Bool.{Bool, true, false}
 use mathlib.Core.List.{List, [], ◌∷◌}
@@ -10,7 +11,7 @@ use lib.Dec.{T, leb, ltb, leb→le, ltb→lt}
 use lib.ListN.{length, get_or, take, drop, length-take, drop_of_length-le}
 use lib.Seq.{drop-cons, get_or-take, take-take}
 use borrow.Author.Tests.{eq-eqb, ne_eqb, lt-ltb, le-ltb}
-use Rattle.pairs.specs.Scans.{if◌then◌else◌, all, all_with, same, less}
+use Rattle.pairs.specs.Scans.{all, all_with, same, less}
 use Rattle.pairs.proofs.Scans.{all_yes, with_step, with_done}
 use Rattle.pairs.proofs.Lists.{at_mem}
 use Rattle.rules.specs.declared.Fault.{Fault}

@@ -1,5 +1,6 @@
 -- What the scan of a record's rows needs: the fault of the rows that are left is that of all.
 -- Assumes nothing.
+use Rattle.std.specs.Prelude.{if◌then◌else◌}
 use mathlib.Core.Path.{◌≡◌, refl, sym, ◌∙◌}
 use mathlib.Core.Bool.{Bool, true, false}
 use mathlib.Core.List.{List, [], ◌∷◌}
@@ -9,7 +10,7 @@ use native.Mathlib.Omega.{arith}
 use lib.ListN.{length, get_or, drop, drop_of_length-le}
 use lib.Seq.{drop-cons}
 use borrow.Author.Tests.{ne_eqb}
-use Rattle.pairs.specs.Scans.{if◌then◌else◌, all_with}
+use Rattle.pairs.specs.Scans.{all_with}
 use Rattle.pairs.proofs.Lists.{at_mem}
 use Rattle.rules.specs.declared.Fault.{Fault}
 use Rattle.rules.specs.declared.Fault.TheVariants.{Sound}

@@ -1,7 +1,7 @@
 -- What the private functions promise to each other. No promise to a caller names these.
 -- Assumes nothing.
-use Rattle.std.specs.Prelude.{◌≡◌, ℕ, ◌-◌, ◌≤◌, ◌<◌, ◌&&◌, List, [], ◌++◌, T, leb, ltb, eqb, length, get_or, take, replicate}
-use Rattle.pairs.specs.Scans.{if◌then◌else◌, all, same, less}
+use Rattle.std.specs.Prelude.{◌≡◌, ℕ, ◌-◌, ◌≤◌, ◌<◌, ◌&&◌, List, [], ◌++◌, T, leb, ltb, eqb, length, get_or, take, replicate, if◌then◌else◌}
+use Rattle.pairs.specs.Scans.{all, same, less}
 use Rattle.pairs.specs.Lent.{leading}
 use Rattle.records.specs.declared.Order.{Order}
 use Rattle.records.specs.declared.Order.TheVariants.{Higher, Equal, Lower}

@@ -1,5 +1,6 @@
 -- What a function of rows gives for the rows of a next table: for one place, for places after one another, for the first of them, and how much at most.
 -- Assumes nothing.
+use Rattle.std.specs.Prelude.{if◌then◌else◌}
 use mathlib.Core.Path.{◌≡◌, refl, ap, ◌∙◌}
 use mathlib.Core.Logic.{◌≢◌}
 use mathlib.Core.Bool.{Bool, true, false}
@@ -12,7 +13,6 @@ use lib.Dec.{eqb}
 use lib.ListN.{length, get_or, take, drop, length-append, take-append-drop}
 use lib.Seq.{take-suc, take-take, length-take-le}
 use borrow.Author.Tests.{eq-eqb, ne_eqb, eqb-true, eqb-false}
-use Rattle.pairs.specs.Scans.{if◌then◌else◌}
 use Rattle.pairs.proofs.Lists.{flat_map_append}
 use Rattle.rules.specs.Limits.{absent}
 use Rattle.rules.specs.NextTables.{listing}

@@ -1,5 +1,6 @@
 -- Keys "compared field by field": the order of keys is total and transitive on keys of one length, so that rising keys are all different.
 -- Assumes nothing.
+use Rattle.std.specs.Prelude.{if◌then◌else◌}
 use mathlib.Core.Path.{◌≡◌, refl, sym, ap, ◌∙◌}
 use mathlib.Core.Logic.{◌⊎◌, inl, inr}
 use mathlib.Core.Bool.{Bool, true, false, true≢false, false≢true}
@@ -9,7 +10,7 @@ use native.Mathlib.Omega.{arith}
 use lib.Dec.{ltb, eqb}
 use lib.ListN.{length, take}
 use borrow.Author.Tests.{ltb-true, ltb-false, eqb-true, eqb-false, lt-ltb, le-ltb, eq-eqb}
-use Rattle.pairs.specs.Scans.{all_with, if◌then◌else◌, same, less}
+use Rattle.pairs.specs.Scans.{all_with, same, less}
 use Rattle.pairs.proofs.Scans.{with_equal}
 
 -- one of three

@@ -1,12 +1,12 @@
 -- Chains of refusals: where the whole does not refuse, no part does, and each test passed; the number of the whole is that of a part.
 -- Assumes nothing.
+use Rattle.std.specs.Prelude.{if◌then◌else◌}
 use mathlib.Core.Path.{◌≡◌, refl, sym, ap, ◌∙◌}
 use mathlib.Core.Bool.{Bool, true, false, not, true≢false}
 use mathlib.Core.List.{List}
 use Prim.Native.Nat.{ℕ, ◌≤◌}
 use native.Mathlib.Omega.{arith}
 use lib.Dec.{eqb}
-use Rattle.pairs.specs.Scans.{if◌then◌else◌}
 use Rattle.rules.specs.declared.Reply.{Reply}
 use Rattle.rules.specs.declared.Fault.{Fault}
 use Rattle.rules.specs.declared.Fault.TheVariants.{Sound, Length, Kind, Cut, Limit, Code, EqualKey, LowerKey}

@@ -1,6 +1,7 @@
 -- A numbered table, read from its front, meets the states first in the order of their numbers: the steps of all states and the entries of the table
 -- are the same list, but for the names of the states. So a table that is met in this order also names its states in the order in which they are met.
 -- Assumes nothing.
+use Rattle.std.specs.Prelude.{if◌then◌else◌}
 use mathlib.Core.Path.{◌≡◌, refl, sym, ap, ap₂, subst, ◌∙◌}
 use mathlib.Core.Logic.{◌⊎◌, ⊎_elim}
 use mathlib.Core.Bool.{Bool, true, false}
@@ -13,7 +14,7 @@ use lib.Dec.{eqb}
 use lib.ListN.{length, get_or, length-map}
 use lib.Seq.{ext_get_or}
 use borrow.Author.Tests.{eqb-true, eqb-false, eq-eqb, ne_eqb}
-use Rattle.pairs.specs.Scans.{if◌then◌else◌, left}
+use Rattle.pairs.specs.Scans.{left}
 use Rattle.pairs.proofs.Lists.{get_d_map, at_mem, length_left, get_d_left, mem_left}
 use Rattle.rules.specs.Limits.{absent}
 use Rattle.rules.specs.NextTables.{there}

@@ -1,5 +1,6 @@
 -- The context's rows are the steps of the system; the specification and a controller go by their next tables to states of theirs.
 -- Assumes nothing.
+use Rattle.std.specs.Prelude.{if◌then◌else◌}
 use mathlib.Core.Path.{◌≡◌, refl, sym, ap, subst, ◌∙◌}
 use mathlib.Core.Logic.{⊎_elim}
 use mathlib.Core.Bool.{Bool, true, false}
@@ -12,7 +13,7 @@ use lib.Dec.{T, ltb, eqb, eqb→eq, eqb_refl}
 use lib.ListN.{length, get_or}
 use borrow.Author.Tests.{ltb-true, lt-ltb}
 use mir.Facts.{and_yes, yes_and}
-use Rattle.pairs.specs.Scans.{if◌then◌else◌, first_place}
+use Rattle.pairs.specs.Scans.{first_place}
 use Rattle.pairs.proofs.Lists.{place_at, place_first, mem_at, at_mem}
 use Rattle.rules.specs.Limits.{absent}
 use Rattle.rules.specs.NextTables.{there, is_present}

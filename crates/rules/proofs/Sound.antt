@@ -1,5 +1,6 @@
 -- What a record without fault holds: counts from 1 to their limits, each field below its count, keys that rise, no key twice.
 -- Assumes nothing.
+use Rattle.std.specs.Prelude.{if◌then◌else◌}
 use mathlib.Core.Path.{◌≡◌, refl, sym, ap, subst, ◌∙◌}
 use mathlib.Core.Bool.{Bool, true, false, not, ◌&&◌, ◌||◌, true≢false, false≢true}
 use mathlib.Core.List.Memᴰ
@@ -11,7 +12,7 @@ use lib.ListN.{length, get_or, drop, length-take}
 use lib.Seq.{ext_get_or, get_or-take}
 use borrow.Author.Tests.{ltb-false, eqb-true, not-false}
 use mir.Facts.{and_yes}
-use Rattle.pairs.specs.Scans.{if◌then◌else◌, same, less, total}
+use Rattle.pairs.specs.Scans.{same, less, total}
 use Rattle.pairs.proofs.Scans.{with_at, with_equal}
 use Rattle.rules.specs.declared.Fault.{Fault}
 use Rattle.rules.specs.declared.Fault.TheVariants.{Sound, Length, Kind, Cut, Limit, Code, EqualKey, LowerKey}

@@ -1,5 +1,6 @@
 -- A write that is not refused: its bytes stand at the start place, and are a controller record without fault, with the counts and the places given.
 -- Assumes nothing.
+use Rattle.std.specs.Prelude.{if◌then◌else◌}
 use mathlib.Core.Path.{◌≡◌, refl, sym, ap, subst, ◌∙◌}
 use mathlib.Core.Logic.{inl, inr, ⊎_elim}
 use mathlib.Core.Bool.{Bool, true, false, not, ◌||◌, true≢false}
@@ -12,7 +13,7 @@ use lib.ListN.{length, get_or, take, drop}
 use lib.Seq.{length-take-le, take_at, drop_at}
 use borrow.Author.Tests.{ltb-false, eq-eqb, not-false}
 use mir.Facts.{and_yes, or_yes}
-use Rattle.pairs.specs.Scans.{if◌then◌else◌, first_place, total}
+use Rattle.pairs.specs.Scans.{first_place, total}
 use Rattle.pairs.proofs.Lists.{place_none}
 use Rattle.rules.specs.declared.Reply.{Reply}
 use Rattle.rules.specs.declared.Fault.TheVariants.{Sound}

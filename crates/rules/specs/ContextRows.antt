@@ -1,9 +1,9 @@
 -- Document 01, "Context: .. rows (state, i, v, u, o, next)": a context's rows by number, of a state, and by key. What is said of a record's bytes
 -- is said of any bytes: of the rows that they would have.
 -- Assumes nothing.
-use Rattle.std.specs.Prelude.{◌≡◌, ℕ, suc, ◌+◌, List, [], map, leb, ltb, length, get_or, drop}
+use Rattle.std.specs.Prelude.{◌≡◌, ℕ, suc, ◌+◌, List, [], map, leb, ltb, length, get_or, drop, if◌then◌else◌}
 use Rattle.pairs.specs.declared.CtxState.{CtxState}
-use Rattle.pairs.specs.Scans.{if◌then◌else◌, first_place, left}
+use Rattle.pairs.specs.Scans.{first_place, left}
 use Rattle.pairs.specs.Lent.{leading}
 use Rattle.rules.specs.declared.ContextRow.{ContextRow}
 use Rattle.rules.specs.declared.StateRows.{StateRows}

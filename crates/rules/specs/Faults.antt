@@ -1,8 +1,8 @@
 -- Document 01, "Reply numbers", 1 to 7: what reading a record finds, in the order "1 to 4, then rows, where the first faulty row decides and
 -- within it 5, 6, 7".
 -- Assumes nothing.
-use Rattle.std.specs.Prelude.{◌≡◌, ℕ, suc, ◌+◌, ◌-◌, ◌%◌, Bool, not, ◌&&◌, ◌||◌, List, [], ◌∷◌, leb, ltb, eqb, length, get_or, take}
-use Rattle.pairs.specs.Scans.{if◌then◌else◌, all_with, same, less}
+use Rattle.std.specs.Prelude.{◌≡◌, ℕ, suc, ◌+◌, ◌-◌, ◌%◌, Bool, not, ◌&&◌, ◌||◌, List, [], ◌∷◌, leb, ltb, eqb, length, get_or, take, if◌then◌else◌}
+use Rattle.pairs.specs.Scans.{all_with, same, less}
 use Rattle.rules.specs.declared.Fault.{Fault}
 use Rattle.rules.specs.declared.Fault.TheVariants.{Sound, Length, Kind, Cut, Limit, Code, EqualKey, LowerKey}
 use Rattle.rules.specs.declared.Kind as kinds

@@ -1,10 +1,9 @@
 -- Document 01: "next states at place state·U·V + u·V + v, 65535 where absent". A next table of so many states with m·n steps each, of the rows
 -- (state, x, y, next): a controller by U and V, a specification by I and O.
 -- Assumes nothing.
-use Rattle.std.specs.Prelude.{ℕ, suc, ◌+◌, ◌*◌, ◌/◌, ◌%◌, Bool, true, false, eqb, get_or, set, replicate}
+use Rattle.std.specs.Prelude.{ℕ, suc, ◌+◌, ◌*◌, ◌/◌, ◌%◌, Bool, true, false, eqb, get_or, set, replicate, if◌then◌else◌}
 use Rattle.std.proofs.Math.Option.{Option, none, some}
 use mathlib.Core.List.{List, [], ◌∷◌, foldl}
-use Rattle.pairs.specs.Scans.{if◌then◌else◌}
 use Rattle.rules.specs.Limits.{absent}
 
 -- the place of the step (x, y) of a state

@@ -1,7 +1,6 @@
 -- Document 01, "Reply numbers": replies, and the order of refusals.
 -- Assumes nothing.
-use Rattle.std.specs.Prelude.{◌≡◌, ℕ, Bool, not, List, eqb}
-use Rattle.pairs.specs.Scans.{if◌then◌else◌}
+use Rattle.std.specs.Prelude.{◌≡◌, ℕ, Bool, not, List, eqb, if◌then◌else◌}
 use Rattle.rules.specs.declared.Reply.{Reply}
 use Rattle.rules.specs.declared.Fault.{Fault}
 use Rattle.rules.specs.Layouts.{Layout}

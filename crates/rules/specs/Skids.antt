@@ -1,9 +1,8 @@
 -- Document 01, "Skids to test on": K1 to K10 as bytes, with what document 01 says of each, and four skids more for what these leave open.
 -- Written from document 01; what the definitions make of them is stated where they are computed.
 -- Assumes nothing.
-use Rattle.std.specs.Prelude.{ℕ, suc, ◌+◌, ◌*◌, Bool, length}
+use Rattle.std.specs.Prelude.{ℕ, suc, ◌+◌, ◌*◌, Bool, length, if◌then◌else◌}
 use mathlib.Core.List.{List, [], ◌∷◌, ◌++◌, map, flat_map}
-use Rattle.pairs.specs.Scans.{if◌then◌else◌}
 
 -- what solving gives in a mode: number, states, rounds, each state's set, and the rows (state, u, v, next) of the table
 pub record Solving : Type 0 where

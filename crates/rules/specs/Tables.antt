@@ -1,8 +1,8 @@
 -- Document 01, "Signals and tables": the two tables of a skid, as they were read.
 -- Assumes nothing.
-use Rattle.std.specs.Prelude.{◌≡◌, ℕ, ◌+◌, ◌*◌, Bool, ◌&&◌, List, [], leb, ltb, eqb, length, get_or}
+use Rattle.std.specs.Prelude.{◌≡◌, ℕ, ◌+◌, ◌*◌, Bool, ◌&&◌, List, [], leb, ltb, eqb, length, get_or, if◌then◌else◌}
 use Rattle.std.proofs.Math.Option.{Option, none, some}
-use Rattle.pairs.specs.Scans.{if◌then◌else◌, first_place, left}
+use Rattle.pairs.specs.Scans.{first_place, left}
 use Rattle.pairs.specs.Sets.{specification_of}
 use Rattle.pairs.specs.Lent.{leading}
 use Rattle.rules.specs.declared.Counts.{Counts}

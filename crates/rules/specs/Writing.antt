@@ -1,7 +1,7 @@
 -- Document 01, "The controller record is written from a start place in the caller's buffer onwards; all other bytes stay."
 -- Assumes nothing.
-use Rattle.std.specs.Prelude.{◌≡◌, ℕ, ◌+◌, ◌*◌, not, ◌&&◌, ◌||◌, List, [], ◌∷◌, ◌++◌, leb, ltb, eqb, length, take, drop}
-use Rattle.pairs.specs.Scans.{if◌then◌else◌, first_place}
+use Rattle.std.specs.Prelude.{◌≡◌, ℕ, ◌+◌, ◌*◌, not, ◌&&◌, ◌||◌, List, [], ◌∷◌, ◌++◌, leb, ltb, eqb, length, take, drop, if◌then◌else◌}
+use Rattle.pairs.specs.Scans.{first_place}
 use Rattle.rules.specs.declared.Reply.{Reply}
 use Rattle.rules.specs.Limits.{absent}
 use Rattle.rules.specs.Layouts.{controller_layout}

@@ -19,6 +19,7 @@ use tables::skids::{read_skid, sizes_of};
 use tables::{INDEX, SPECIFICATION_NUMBERS, Sizes};
 
 // Refusals 8, 9 and 10 of two records that were read: of the counts of context and specification, and of so many lent numbers.
+#[tactic(auto, using(crate::proofs::MatchLaws::product_over, crate::proofs::MatchLaws::next_short))]
 fn match_refusal(c: Counts, s: Counts, sets: usize, next: usize) -> Reply
     ensures { result ≡ match_refusal c s sets next }
 {

@@ -1,7 +1,6 @@
 -- The two records of a skid as check and solving take them: read in document 01's order, and their counts side by side.
 -- Assumes nothing.
-use Rattle.std.specs.Prelude.{◌≡◌, ℕ, ◌*◌, List}
-use Rattle.pairs.specs.Scans.{if◌then◌else◌}
+use Rattle.std.specs.Prelude.{◌≡◌, ℕ, ◌*◌, List, if◌then◌else◌}
 use Rattle.rules.specs.declared.Reply.{Reply}
 use Rattle.rules.specs.declared.Counts.{Counts}
 use Rattle.rules.specs.declared.Fault.TheVariants.{Sound}

@@ -1,5 +1,6 @@
 -- The digits of a number: each is one of 0 to 9, all but the last are those of a tenth of it, read back they give the number, none is lost for lack of fuel, and only 0 begins with 0.
 -- Assumes nothing.
+use Rattle.std.specs.Prelude.{if◌then◌else◌}
 use mathlib.Core.Path.{◌≡◌, refl, sym, ap, ◌∙◌}
 use mathlib.Core.Logic.{⊎_elim}
 use mathlib.Core.Bool.{Bool, true, false}
@@ -11,7 +12,6 @@ use native.Mathlib.Omega.{arith}
 use lib.Dec.{ltb}
 use lib.ListN.{length, get_or, length-append, get_or-append}
 use borrow.Author.Tests.{ltb-true, ltb-false, lt-ltb, le-ltb}
-use Rattle.pairs.specs.Scans.{if◌then◌else◌}
 use Rattle.text.specs.Lines.{decimal, digits}
 
 -- the number that digits stand for, read from the front

@@ -1,5 +1,6 @@
 -- What both programs do with their input: the first record is cut off, and a text stands at the front of a buffer that is long enough for each.
 -- Assumes nothing.
+use Rattle.std.specs.Prelude.{if◌then◌else◌}
 use mathlib.Core.Path.{◌≡◌, sym, ◌∙◌}
 use mathlib.Core.Bool.{Bool, true, false}
 use mathlib.Core.List.{List}
@@ -9,7 +10,6 @@ use lib.Dec.{leb}
 use lib.ListN.{length, take, drop, length-append, length-drop}
 use lib.Seq.{take_all, length-take-le}
 use borrow.Author.Tests.{leb-true, le-leb, lt-leb}
-use Rattle.pairs.specs.Scans.{if◌then◌else◌}
 use Rattle.pairs.specs.Lent.{leading}
 use Rattle.rules.specs.declared.Reply.{Reply}
 use Rattle.text.specs.Lines.{refused_text}

@@ -1,7 +1,6 @@
 -- Document 01, "`solve` reads standard input": how the bytes are cut into records.
 -- Assumes nothing.
-use Rattle.std.specs.Prelude.{◌≡◌, ℕ, ◌+◌, ◌||◌, List, ltb, length, take, drop}
-use Rattle.pairs.specs.Scans.{if◌then◌else◌}
+use Rattle.std.specs.Prelude.{◌≡◌, ℕ, ◌+◌, ◌||◌, List, ltb, length, take, drop, if◌then◌else◌}
 use Rattle.rules.specs.Records.{length_in}
 
 -- "More than 28,689 bytes": a mode byte, the longest context and the longest specification

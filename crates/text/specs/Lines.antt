@@ -1,8 +1,7 @@
 -- Document 01, "Output": the lines that the programs print.
 -- Assumes nothing.
-use Rattle.std.specs.Prelude.{ℕ, zero, suc, ◌+◌, ◌*◌, ◌/◌, ◌%◌, ltb, take}
+use Rattle.std.specs.Prelude.{ℕ, zero, suc, ◌+◌, ◌*◌, ◌/◌, ◌%◌, ltb, take, if◌then◌else◌}
 use mathlib.Core.List.{List, [], ◌∷◌, ◌++◌, flat_map}
-use Rattle.pairs.specs.Scans.{if◌then◌else◌}
 use Rattle.rules.specs.declared.Reply.{Reply}
 use Rattle.rules.specs.Replies.{refuses}
 use Rattle.rules.specs.NextTables.{listing}

@@ -1,7 +1,6 @@
 -- Document 01, the program `solve`: standard input to printed bytes; and `fit_table` in the same style.
 -- Assumes nothing.
-use Rattle.std.specs.Prelude.{◌≡◌, ℕ, List, leb, ltb, eqb, length, get_or, drop, replicate}
-use Rattle.pairs.specs.Scans.{if◌then◌else◌}
+use Rattle.std.specs.Prelude.{◌≡◌, ℕ, List, leb, ltb, eqb, length, get_or, drop, replicate, if◌then◌else◌}
 use Rattle.pairs.specs.Lent.{leading}
 use Rattle.rules.specs.Limits.{set_numbers, next_numbers}
 use Rattle.rules.specs.declared.Counts.{Counts}

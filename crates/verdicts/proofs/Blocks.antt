@@ -1,5 +1,6 @@
 -- The check finds that a controller blocks exactly if "some triple has an i with no joint step".
 -- Assumes nothing.
+use Rattle.std.specs.Prelude.{if◌then◌else◌}
 use mathlib.Core.Path.{sym, ap, subst, ◌∙◌}
 use mathlib.Core.Logic.{◌↔◌, ◌⊎◌, inl, inr, ⊎_elim, ∥∥₁_elim}
 use mathlib.Core.HLevel.{⊥_prop}
@@ -14,7 +15,7 @@ use Rattle.words.proofs.Words.{known, is_some}
 use Rattle.words.proofs.Faulty.{Goes, Blocked}
 use Rattle.words.proofs.Codes.{same_code}
 use Rattle.words.proofs.Count.{kept_or_not}
-use Rattle.pairs.specs.Scans.{if◌then◌else◌, left}
+use Rattle.pairs.specs.Scans.{left}
 use Rattle.pairs.specs.Sets.{pair_place, context_of, specification_of}
 use Rattle.pairs.proofs.Scans.{imp_yes, all_yes, not_all, any_yes, yes_any}
 use Rattle.pairs.proofs.Sets.{pair_context, pair_specification}

@@ -1,5 +1,6 @@
 -- What the reply and the lent numbers of the check mean, for every input that gets a verdict; 0, 14, 15 and 16 are given to no other.
 -- Assumes nothing.
+use Rattle.std.specs.Prelude.{if◌then◌else◌}
 use mathlib.Core.Path.{◌≡◌, refl, sym, ap, subst, ◌∙◌}
 use mathlib.Core.Logic.Iff
 use mathlib.Core.Logic.{◌↔◌, ◌⊎◌, inl, inr, ◌≢◌}
@@ -10,7 +11,6 @@ use lib.Dec.{eqb}
 use lib.ListN.{drop, replicate}
 use Rattle.words.specs.System.{Good}
 use Rattle.words.specs.Faulty.{LacksReply, LeavesSpecification, LacksContinuation}
-use Rattle.pairs.specs.Scans.{if◌then◌else◌}
 use Rattle.pairs.specs.Lent.{filled, encoded_sets}
 use Rattle.rules.specs.declared.Reply.{Reply}
 use Rattle.rules.specs.Limits.{set_numbers}

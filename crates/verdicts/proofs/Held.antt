@@ -1,5 +1,6 @@
 -- The scan of all triples that the sets hold.
 -- Assumes nothing.
+use Rattle.std.specs.Prelude.{if◌then◌else◌}
 use mathlib.Core.Path.{sym, subst}
 use mathlib.Core.Logic.{◌↔◌}
 use mathlib.Core.Bool.{Bool, false}
@@ -8,7 +9,7 @@ use Prim.Native.Nat.{ℕ}
 use native.Mathlib.Nat.{div-add-mod'}
 use lib.Dec.{T}
 use lib.ListN.{get_or}
-use Rattle.pairs.specs.Scans.{if◌then◌else◌, any, left}
+use Rattle.pairs.specs.Scans.{any, left}
 use Rattle.pairs.specs.Sets.{member, pair_place, context_of, specification_of}
 use Rattle.pairs.proofs.Scans.{both_yes, yes_both, any_yes, yes_any}
 use Rattle.pairs.proofs.Lists.{left_mem, mem_left}

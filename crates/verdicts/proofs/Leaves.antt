@@ -1,5 +1,6 @@
 -- The check finds that a controller leaves exactly if "from some triple a joint step has no specification row".
 -- Assumes nothing.
+use Rattle.std.specs.Prelude.{if◌then◌else◌}
 use mathlib.Core.Path.{◌≡◌, refl, subst}
 use mathlib.Core.Logic.{◌↔◌}
 use mathlib.Core.Bool.{Bool, false, not}
@@ -11,7 +12,7 @@ use Rattle.words.specs.System.{letter}
 use Rattle.words.specs.Fit.{Stays}
 use Rattle.words.proofs.Words.{known, is_some, not_both, dec_some}
 use Rattle.words.proofs.Faulty.{Leaving}
-use Rattle.pairs.specs.Scans.{if◌then◌else◌, any}
+use Rattle.pairs.specs.Scans.{any}
 use Rattle.pairs.specs.Sets.{pair_place}
 use Rattle.pairs.proofs.Scans.{both_yes, yes_both, any_yes, yes_any}
 use Rattle.pairs.proofs.Sets.{pair_context, pair_specification}

@@ -1,5 +1,6 @@
 -- The triples of the definition are exactly those reached, because its fuel suffices: a further sweep adds nothing, and more fuel changes nothing.
 -- Assumes nothing.
+use Rattle.std.specs.Prelude.{if◌then◌else◌}
 use mathlib.Core.Path.{◌≡◌, refl, sym, ap, subst, ◌∙◌}
 use mathlib.Core.Logic.{◌↔◌, ◌⊎◌, inl, inr, ⊎_elim}
 use mathlib.Core.Bool.{Bool, true, false}
@@ -10,7 +11,7 @@ use lib.Dec.{T, eqb}
 use lib.ListN.{length, get_or}
 use borrow.Author.Tests.{eqb-true}
 use Rattle.words.proofs.Count.{count, count_length, count_less, find}
-use Rattle.pairs.specs.Scans.{if◌then◌else◌, left, same}
+use Rattle.pairs.specs.Scans.{left, same}
 use Rattle.pairs.proofs.Scans.{with_equal}
 use Rattle.pairs.specs.Sets.{member, pair_place}
 use Rattle.pairs.proofs.Lists.{length_left, part_below, left_mem}

@@ -1,6 +1,7 @@
 -- What each verdict of the check means for the words of the controller: it fits exactly if they are a good controller; else the verdict names the
 -- first fault that they have, "incomplete", "otherwise" leaves, "otherwise" blocks.
 -- Assumes nothing.
+use Rattle.std.specs.Prelude.{if◌then◌else◌}
 use mathlib.Core.Path.{◌≡◌, refl, subst}
 use mathlib.Core.Logic.Iff
 use mathlib.Core.Logic.{◌↔◌}
@@ -15,7 +16,6 @@ use Rattle.words.specs.Fit.{Triple}
 use Rattle.words.specs.Faulty.{LacksReply, LeavesSpecification, LacksContinuation}
 use Rattle.words.proofs.Fit.{fits_iff_good}
 use Rattle.words.proofs.Faulty.{leaving_same, blocked_same, lacking_iff, leaving_iff, blocked_iff, good_replies, good_stays, good_continues}
-use Rattle.pairs.specs.Scans.{if◌then◌else◌}
 use Rattle.rules.specs.Tables.{Skid}
 use Rattle.rules.specs.Meaning.{NextTable, Legal, system, table_step, TableWords}
 use Rattle.verdicts.specs.declared.Verdict.{Verdict}

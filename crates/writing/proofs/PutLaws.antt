@@ -1,5 +1,6 @@
 -- What putting bytes into a buffer needs: stores at its front, a part of it that is lent, the rows' bytes with one place more, and a whole record.
 -- Assumes nothing.
+use Rattle.std.specs.Prelude.{if◌then◌else◌}
 use mathlib.Core.Path.{◌≡◌, refl, sym, ap, ◌∙◌}
 use mathlib.Core.Bool.{Bool, true, false}
 use mathlib.Core.List.{List, [], ◌∷◌, ◌++◌, flat_map, append_assoc, append-nil}
@@ -10,7 +11,6 @@ use lib.Dec.{eqb}
 use lib.ListN.{length, get_or, take, drop, length-append, length-take, length-drop, drop_of_length-le, take-append-drop}
 use lib.Seq.{sets, sets-eq, take_at, drop_at, take_all, drop-drop}
 use borrow.Author.Tests.{eqb-true, eqb-false}
-use Rattle.pairs.specs.Scans.{if◌then◌else◌}
 use Rattle.rules.specs.Limits.{absent}
 use Rattle.rules.specs.Layouts.{controller_layout}
 use Rattle.rules.specs.Bytes.{bytes_of, written}

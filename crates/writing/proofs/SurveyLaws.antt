@@ -1,5 +1,6 @@
 -- What the survey of a next table needs: how many places have a row, and the first bad place, of a list with one place more.
 -- Assumes nothing.
+use Rattle.std.specs.Prelude.{if◌then◌else◌}
 use mathlib.Core.Path.{◌≡◌, refl, sym, ap, ◌∙◌}
 use mathlib.Core.Bool.{Bool, true, false, not, ◌||◌}
 use mathlib.Core.List.{List, [], ◌∷◌, ◌++◌}
@@ -11,7 +12,7 @@ use lib.Dec.{ltb, eqb}
 use lib.ListN.{length, get_or, take, length-take}
 use lib.Seq.{take-suc, length-take-le}
 use borrow.Author.Tests.{eq-eqb, ne_eqb, lt-ltb, le-ltb}
-use Rattle.pairs.specs.Scans.{if◌then◌else◌, first_place}
+use Rattle.pairs.specs.Scans.{first_place}
 use Rattle.pairs.proofs.Lists.{place_le_length}
 use Rattle.writing.specs.declared.Survey.{Survey}
 use Rattle.rules.specs.Limits.{absent}

@@ -1,8 +1,7 @@
 // Writing of a controller record, from a start place in the caller's buffer onwards.
 #![tactic(auto)]
 
-ghost use Rattle.std.specs.Prelude.{◌≡◌, [], ◌∷◌, ◌+◌, ◌<◌, ◌≤◌, eqb, length, take};
-ghost use Rattle.pairs.specs.Scans.{if◌then◌else◌};
+ghost use Rattle.std.specs.Prelude.{◌≡◌, [], ◌∷◌, ◌+◌, ◌<◌, ◌≤◌, eqb, length, take, if◌then◌else◌};
 ghost use Rattle.rules.specs.Writing.{controller_bytes, ControllerWritten};
 ghost use Rattle.pairs.specs.Lent.{leading, spliced_at};
 ghost use Rattle.writing.specs.Inside.{Surveyed, Seen, Codes, Writable, head_bytes, row_bytes, rows_bytes};

@@ -1,5 +1,5 @@
 use Rattle.pairs.proofs.MethodLaws.{product_fits_lem}
-use Rattle.fit.proofs.MatchLaws.{inputs_differ, outputs_differ, signals_differ, replies_differ, product_over, room_short, counts_match}
+use Rattle.fit.proofs.MatchLaws.{inputs_differ, outputs_differ, signals_differ, replies_differ, room_short, counts_match}
 use Rattle.fit.proofs.checking.match_refusal.Goals as goal
 
 pub returns-then-c-s : goal.returns-then-c-s
@@ -16,9 +16,6 @@ returns-then-c-t-2 c = search replies_differ
 
 pub overflow_mul-c : goal.overflow_mul-c
 overflow_mul-c c = record { fits = search product_fits_lem }
-
-pub returns-then-c-s-gt-PAIR_LIMIT : goal.returns-then-c-s-gt-PAIR_LIMIT
-returns-then-c-s-gt-PAIR_LIMIT c = search product_over
 
 pub returns-then-room-lt-SET_NUMBERS : goal.returns-then-room-lt-SET_NUMBERS
 returns-then-room-lt-SET_NUMBERS c = search room_short
