@@ -92,7 +92,7 @@ def refusals(crate, log):
             # The function is named by its line, which comes after those of its goals.
             open_goals.append(unproved[1])
         elif function:
-            listed = re.search(r"`search` did not prove (.*)", function[2])
+            listed = re.search(r"`search` did not prove ([^;]*)", function[2])
             open_goals += re.findall(r"`([^`]+)`", listed[1]) if listed else []
             found |= {("in", function[1], goal) for goal in open_goals}
             open_goals = []
