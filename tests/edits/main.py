@@ -25,28 +25,8 @@ class Edit:
             elif line.startswith("old: "):
                 old = line[len("old: ") :]
             elif line.startswith("new:"):
-                self.pairs.append((file, old, line[len("new:") :].removeprefix(" ")))
-
-
-def function_at(text, old):
-    """The name of the function in whose text this stands, or '' where it stands in none."""
-    name = indent = ""
-    for line in text[: max(text.find(old), 0)].split("\n"):
-        begun = re.match(r'( *)(?:pub(?:\(\w+\))? )?(?:extern "C" )?fn (\w+)', line)
-        if begun:
-            indent, name = begun.groups()
-        elif line == indent + "}":
-            name = ""
-    return name
-
-
-def is_of(pair, function, folder):
-    """Does the pair change this function, or stand in none (then it goes with each)?"""
-    file, old, _ = pair
-    *path, name = function.split("::")
-    module = pathlib.PurePath(file).stem
-    at = function_at((folder / file).read_text(), old)
-    return not at or at == name and (module in ("lib", "main") or module in path)
+                new = line[len("new:") :]
+                self.pairs.append((file, old, new[1:] if new.startswith(" ") else new))
 
 
 class Copy:
@@ -57,18 +37,18 @@ class Copy:
         shutil.copytree("crates", self.room / "crates", ignore=lambda at, names: {"out"} & set(names) if at.count("/") == 1 else set())
         shutil.copy("crates.txt", self.room)
 
-    def tried(self, crate, pairs, *flags):
-        """What the prover says of the crate with these pairs. The copy is as before then."""
-        folder = self.room / "crates" / crate
-        was = {file: (folder / file).read_text() for file, _, _ in pairs}
-        try:
-            for file, old, new in pairs:
-                text = (folder / file).read_text()
-                (folder / file).write_text(text.replace(old, new, 1))
-            ran = subprocess.run(["rt", "check", *flags], cwd=folder, stdin=subprocess.DEVNULL, stdout=subprocess.PIPE, stderr=subprocess.STDOUT, errors="replace")
-        finally:
-            for file, text in was.items():
-                (folder / file).write_text(text)
+    def tried(self, edit):
+        """What the prover says of the crate with this edit; its log has it. The copy is as before then."""
+        folder, log = self.room / "crates" / edit.crate, LOGS / edit.crate / f"{edit.path.stem}.log"
+        was = {file: (folder / file).read_text() for file, _, _ in edit.pairs}
+        for file, old, new in edit.pairs:
+            text = (folder / file).read_text()
+            (folder / file).write_text(text.replace(old, new, 1))
+        ran = subprocess.run(["rt", "check"], cwd=folder, stdin=subprocess.DEVNULL, stdout=subprocess.PIPE, stderr=subprocess.STDOUT, errors="replace")
+        for file, text in was.items():
+            (folder / file).write_text(text)
+        log.parent.mkdir(parents=True, exist_ok=True)
+        log.write_text(ran.stdout)
         return ran.stdout
 
 
@@ -102,7 +82,7 @@ def refusals(crate, log):
 def declared(crate, path, name):
     """A declaration of a file of proofs/; where the file is a function's, it is an answer to a goal of it."""
     *folders, _ = pathlib.PurePath(path).parts[1:]
-    inside = {("in", "::".join([crate, *(it.removeprefix("+") for it in folders)]), name)} if folders else set()
+    inside = {("in", "::".join([crate, *(it.lstrip("+") for it in folders)]), name)} if folders else set()
     return {("at", path, name)} | inside
 
 
@@ -111,36 +91,12 @@ def is_met(line, found):
     return any((how, where) == it[:2] and name in ("", it[2]) for it in found)
 
 
-def keep(edit, name, log):
-    folder = LOGS / edit.crate
-    folder.mkdir(parents=True, exist_ok=True)
-    (folder / f"{name}.log").write_text(log)
-    return log
-
-
-def missed(copy, edit):
-    """The edit's lines that are not met. First all its pairs are tried at once. Then a function that was not refused, since its goals waited for another one that
-    is wrong too, is tried with its own pairs alone."""
-    found = refusals(edit.crate, keep(edit, edit.path.stem, copy.tried(edit.crate, edit.pairs)))
-    left = []
-    for line in edit.wanted:
-        how, where, _ = line
-        if how == "in" and not is_met(line, found):
-            own = [it for it in edit.pairs if is_of(it, where, copy.room / "crates" / edit.crate)]
-            name = f"{edit.path.stem}.{where.replace('::', '.')}"
-            alone = refusals(edit.crate, keep(edit, name, copy.tried(edit.crate, own, "--only", where)))
-            if is_met(line, alone):
-                continue
-        if not is_met(line, found):
-            left.append(line)
-    return left
-
-
 def count(copy):
     passed = failed = 0
     for edit in map(Edit, sorted(pathlib.Path("crates").glob("*/must-fail/*.edit"))):
         if edit.wanted:
-            left = missed(copy, edit)
+            found = refusals(edit.crate, copy.tried(edit))
+            left = [line for line in edit.wanted if not is_met(line, found)]
             for line in left:
                 print(f"{edit.path}: not refused {' '.join(line).strip()}", flush=True)
             passed, failed = passed + len(edit.wanted) - len(left), failed + len(left)
@@ -151,7 +107,7 @@ def count(copy):
 def show(copy, paths):
     for edit in map(Edit, map(pathlib.Path, paths)):
         print(f"== {edit.path}")
-        for how, where, name in sorted(refusals(edit.crate, keep(edit, edit.path.stem, copy.tried(edit.crate, edit.pairs)))):
+        for how, where, name in sorted(refusals(edit.crate, copy.tried(edit))):
             # An answer to a function's goal is told by the function.
             if how == "in" or where.count("/") == 1:
                 print(f"# refused {how}: {where} {name}", flush=True)
