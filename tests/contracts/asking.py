@@ -28,48 +28,47 @@ def owed(function):
         lent = re.fullmatch(r"&\s*(?:'\w+\s+)?(mut\b)?[^&']*", kind)
         if not re.fullmatch(r"\w+", name) or (not lent and re.search("[&']", kind)):
             return None
-        atom = f"«{name}»" if "_" in name else name
-        found += [(atom, START)] + [(atom, END)] * bool(lent[1]) if lent else [(atom, "")]
+        found += [(name, START)] + [(name, END)] * bool(lent[1]) if lent else [(name, "")]
     return found + [(RESULT, "")] * (function.result not in ("", "()"))
 
 
-def given(argument, result):
+def given(argument):
     """What an argument of the predicate says, in the same words; None where it is anything else."""
     if len(argument) == 1:
-        return (RESULT if argument[0] == result else argument[0], "")
-    if len(argument) == 8 and argument[:3] + argument[4:5] + argument[6:] == ["(", "now", "(", ".", ")", ")"]:
-        return (argument[3], {"entry": START, "exit": END}.get(argument[5]))
+        return (RESULT if argument[0] == "result" else argument[0], "")
+    if len(argument) == 3 and argument[1] == ".":
+        return (argument[0], {"now": START, "old": START, "new": END}.get(argument[2]))
     return None
 
 
 def ensured(tree, function):
-    """Of `ensures { λ r. ⌜ P x y ⌝ }`: the name of the result, that of the predicate, and what it is given; None where there is not just that."""
+    """Of `ensures { P x.now y.new result }`: the name of the predicate, and what it is given; None where there is not just one clause."""
     path = function.where.split(": ")[0]
     clauses = [tokens(tree[path][start:end]) for word, start, end in function.clauses if word == "ensures"]
-    if len(clauses) != 1 or clauses[0][:1] + clauses[0][2:4] + clauses[0][-1:] != ["λ", ".", "⌜", "⌝"]:
+    if len(clauses) != 1:
         return None
-    result, (head, *arguments) = clauses[0][1], groups(clauses[0][4:-1]) or [[""]]
-    return result, head[0], [given(argument, result) for argument in arguments]
+    head, *arguments = groups(clauses[0]) or [[""]]
+    return head[0], [given(argument) for argument in arguments]
 
 
 def outcome(tree, function):
     """For each argument of a function's predicate: is it of the outcome, or of the input?"""
     said = ensured(tree, function)
-    return [one is not None and (one == (RESULT, "") or one[1] == END) for one in said[2]] if said else []
+    return [one is not None and (one == (RESULT, "") or one[1] == END) for one in said[1]] if said else []
 
 
 def wrong_ensures(tree, function, predicate):
     """Is what a function ensures this predicate, given all that comes in and all that goes out?"""
     name, said, due = name_of(predicate), ensured(tree, function), owed(function)
     wrong = [f"has a {word}" for word in sorted({word for word, _, _ in function.clauses} - {"ensures"})]
-    if said is None or said[1] != name:
+    if said is None or said[0] != name:
         return wrong + [f"does not ensure {name}, and that alone"]
     if due is None:
         return wrong + ["has a parameter of a kind that this test does not know"]
-    result, _, arguments = said
+    _, arguments = said
     wrong += from_elsewhere(tree, function.where.split(": ")[0], name, predicate)
-    if result in [name] + [parameter for parameter, _ in function.parameters]:
-        wrong.append(f"calls its result {result}, which is the name of something else")
+    if "result" in [parameter for parameter, _ in function.parameters]:
+        wrong.append("has a parameter of the name that a clause gives the result")
     for one in dict.fromkeys(due + arguments):
         what, times = " ".join(one) if one else "what is neither a parameter nor the result", arguments.count(one)
         if one not in due:

@@ -34,7 +34,7 @@ def functions(tree):
             at = behind(text, start)
             result = re.compile(r"\s*->(.*?)(?=\b(?:requires|ensures)\b|\{|;)|", re.S).match(text, at)
             given, at, clauses = parameters(text[start + 1 : at - 1]), result.end(), []
-            while word := re.compile(r"\s*(\w+)\s*\{").match(text, at):
+            while word := re.compile(r"\s*(\w+)(?:\s+\w+)?\s*\{").match(text, at):
                 at = behind(text, word.end() - 1)
                 clauses.append((word[1], word.end(), at - 1))
             found.append(Function(f"{path}: {match[1]}", match.start(), given, (result[1] or "").strip(), clauses))

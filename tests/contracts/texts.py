@@ -11,7 +11,7 @@ COMMENTS = {
 TOKEN = re.compile(r'«[^»]*»|"(?:\\.|[^"\\])*"|[(){}.;,@]|[^\s(){}.;,@"«»]+')
 CLOSING = {"(": ")", "{": "}", "[": "]"}
 USE = re.compile(r"^\s*(?:ghost\s+|pub\s+|unfoldable\s+)*use\s+(?:package\.)?([^\s{;]+)\.\s*\{([^}]*)\}", re.M)
-MODULE = re.compile(r"Rattle·(\w+)(?:·specs|·proofs)?\.(specs|proofs)\.(.+)")
+MODULE = re.compile(r"Rattle\.(\w+)\.(specs|proofs)\.(.+)")
 
 
 def tree_of(root):
@@ -29,8 +29,8 @@ def code(tree, path):
 
 
 def tokens(text):
-    """Escaped names are kept as they are only where the bare word would be another name."""
-    return [t[1:-1] if t[0] == "«" and "_" not in t else t for t in TOKEN.findall(blanked(text, ".antt"))]
+    """An escaped name is the bare word."""
+    return [t.strip("«»") for t in TOKEN.findall(blanked(text, ".antt"))]
 
 
 def behind(text, at):
@@ -56,10 +56,12 @@ def split(parts, *symbols):
 
 
 def groups(parts):
-    """An application: its head and arguments, a bracket with what it holds as one."""
+    """An application: its head and arguments, a bracket with what it holds as one, and a projection with what it is of."""
     found, at = [], 0
     while at < len(parts):
         end = behind(parts, at) if parts[at] in CLOSING else at + 1
+        while parts[end : end + 1] == ["."]:
+            end += 2
         found.append(parts[at:end])
         at = end
     return found

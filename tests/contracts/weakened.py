@@ -4,6 +4,7 @@ import re
 from reading import PAGE, PROMISES, functions, rows
 
 ENTRY = "mortarleaf_solve"
+ENTRIES = "crates/solver_c/src/lib.rt"
 
 
 def swapped(tree, path, old, new):
@@ -22,11 +23,11 @@ def within(tree, path, start, end, old, new):
 
 
 def entry(tree):
-    return next(function for function in functions(tree) if function.where.endswith(f": {ENTRY}"))
+    return next(function for function in functions(tree) if function.where == f"{ENTRIES}: {ENTRY}")
 
 
-def row_of(tree, name=ENTRY):
-    return next(row for row in rows(tree)[0] if row.function.endswith(f": {name}"))
+def row_of(tree, name=f"{ENTRIES}: {ENTRY}"):
+    return next(row for row in rows(tree)[0] if row.function.endswith(name))
 
 
 def head(old, new):
@@ -72,8 +73,9 @@ def harmless(tree):
     copy = dict(tree)
     for path, text in tree.items():
         if path.endswith(".rt"):
-            text = text.replace(" ⌝ }", " -- ⌝ or not\n  ⌝\n  }").replace("ensures {", "// requires { ⌜ never ⌝ }\n  /* pub fn gone() */ ensures\n  {\n")
-            text += '\n// extern "C" fn gone()\npub(crate) fn inner(n: u32) -> u32\n    requires { ⌜ n ≡ 0 ⌝ }\n{\n    n\n}\n'
+            text = re.sub(r"(ensures \{[^{}]*) \}", r"\1 -- result or not\n  }", text)
+            text = text.replace("ensures {", "// requires { never }\n  /* pub fn gone() */ ensures\n  {\n")
+            text += '\n// extern "C" fn gone()\npub(crate) fn inner(n: u32) -> u32\n    requires { n ≡ 0 }\n{\n    n\n}\n'
         if path.endswith(".antt"):
             lines = [line if line.lstrip().startswith("--") else line.replace(" → ", "\n      → {- Solved → -} ") for line in text.split("\n")]
             text = "\n".join(lines)
@@ -89,24 +91,24 @@ def of_functions(tree):
     no_end = f"{function}: gives Solved next at the end 0 times, and not once"
     no_mode = f"{function}: gives Solved mode 0 times, and not once"
     return [
-        ("the entry of solving says only that its reply has a small number", head(r"⌜.*⌝", "⌜ r .number ≤ 16 ⌝"), other),
+        ("the entry of solving says only that its reply has a small number", head(r"\{ Solved.*\}", "{ result.number ≤ 16 }"), other),
         ("it ensures another predicate", head("Solved", "SolvedReply"), other),
         ("it ensures nothing", head(r"ensures \{.*\}", ""), other),
-        ("it ensures something else beside", head("(ensures)", r"ensures { λ r. ⌜ r ≡ r ⌝ } \1"), other),
-        ("it ensures its predicate or nothing", head("⌝", "⊎ ⊤ ⌝"), [f"{function}: gives Solved {word}, which is not asked" for word in "⊎⊤"]),
-        ("its predicate is of another file", source(r"Rattle·\w+\.specs\.Solve\.", "Rattle·solver·specs.specs.Weak."),
+        ("it ensures something else beside", head("(ensures)", r"ensures { result ≡ result } \1"), other),
+        ("it ensures its predicate or nothing", head(r" \}\Z", " ⊎ ⊤ }"), [f"{function}: gives Solved {word}, which is not asked" for word in "⊎⊤"]),
+        ("its predicate is of another file", source(r"Rattle\.\w+\.specs\.Solve\.", "Rattle.solver.specs.Weak."),
             [f"{function}: Solved is that of crates/solver/specs/Weak.antt: Solved, and not that of {predicate}"]),
         ("its predicate is another one under its name", source(r"(use [^;]*)\bSolved\b", r"\1SolvedReply as Solved"),
             [f"{function}: Solved is that of {file}: SolvedReply, and not that of {predicate}"]),
-        ("it says nothing of a buffer at the end", head(r"\(now \(next \.exit\)\)", ""), [no_end]),
-        ("it gives a buffer at the start in place of the end", head(r"next \.exit", "next .entry"),
+        ("it says nothing of a buffer at the end", head(r" next\.new", ""), [no_end]),
+        ("it gives a buffer at the start in place of the end", head(r"next\.new", "next.old"),
             [no_end, f"{function}: gives Solved next at the start 2 times, and not once"]),
         ("it gives a number in place of a parameter", head(r"Solved \w+", "Solved 0"),
             [no_mode, f"{function}: gives Solved 0, which is not asked"]),
-        ("its result hides a parameter", head(r"λ r\.(.*) r\b", r"λ mode.\1 mode"),
-            [no_mode, f"{function}: gives Solved the result 2 times, and not once",
-             f"{function}: calls its result mode, which is the name of something else"]),
-        ("it has a requires", head("(ensures)", r"requires { ⌜ mode ≤ 1 ⌝ } \1"), [f"{function}: has a requires"]),
+        ("a parameter hides its result", head(r"\bmode\b", "result"),
+            [f"{function}: gives Solved mode, which is not asked", f"{function}: gives Solved result 0 times, and not once",
+             f"{function}: has a parameter of the name that a clause gives the result"]),
+        ("it has a requires", head("(ensures)", r"requires { mode ≤ 1 } \1"), [f"{function}: has a requires"]),
         ("it lends in a way that is not known", head(r"sets: &mut \[u64\]", "sets: (&mut [u64], u8)"),
             [f"{function}: has a parameter of a kind that this test does not know"]),
     ]
@@ -119,7 +121,7 @@ def of_rows(tree):
     return [
         ("a method has no row", source(r"\Z", "\nimpl Reply {\n    pub fn unlisted(self) -> u32 {\n        0\n    }\n}\n"),
             [f"{path}: unlisted: has no row in {PAGE}"]),
-        ("an entry for C has no row", source(r"\Z", '\n#[no_mangle]\nextern "C" fn unlisted() {}\n'), [f"{path}: unlisted: has no row in {PAGE}"]),
+        ("an entry for C has no row", source(r"\Z", '\n#[unsafe(no_mangle)]\nextern "C" fn unlisted() {}\n'), [f"{path}: unlisted: has no row in {PAGE}"]),
         ("a row has no function", page(rf"\| `{function}`", f"| `{gone}`"),
             [f"{function}: has no row in {PAGE}", f"{PAGE}: {gone}: is no public function"]),
         ("an exception is not needed", page(r"(^## Exceptions\n.*?---\|\n)", rf"\1| `{gone}` | determined through `{thing}` | none |\n"),
@@ -135,7 +137,7 @@ def of_rows(tree):
 
 
 def of_theorems(tree):
-    theorem, text = row_of(tree).theorem, row_of(tree, "solve_text")
+    theorem, text = row_of(tree).theorem, row_of(tree, ": solve_text")
 
     def all_say(wrong):
         return [f"{row.function}: {theorem} {wrong}" for row in rows(tree)[0] if row.theorem == theorem]
@@ -163,7 +165,7 @@ def of_promises(tree):
     elsewhere, solving = f"{PROMISES}: Solved: Solved is that of ", f"{PROMISES}: Promises.solving: "
     lost, neither = "speaks of reply : Reply, which is no function's outcome", f"which is neither what a function ensures nor a fact that {PAGE} lists"
     other = "crates/rules/specs/RoundTrips.antt: ReadBack"
-    weak = r"\1Solved as Other\2\nuse Rattle·words.specs.Weak.{Solved}"
+    weak = r"\1Solved as Other\2\nuse Rattle.words.specs.Weak.{Solved}"
     return [
         ("a promise takes a weaker predicate of the same name", promise(r"(^use [^{]*\{[^}]*)\bSolved\b([^}]*\})", weak),
             [f"{elsewhere}crates/words/specs/Weak.antt: Solved, and not that of {predicate}"]),
@@ -173,16 +175,16 @@ def of_promises(tree):
             [f"{solving}{lost}", f"{solving}takes SolvedReply, {neither}"]),
         ("a promise takes the predicate as denied", promise(r"(pub solving : .*?→ )Solved ", r"\1¬ Solved "),
             [f"{solving}takes what a function ensures only as denied, or beside something else"]),
-        ("a promise takes an equation in place of the predicate", promise(r"(pub solving : .*?→ )Solved [^→]*", r"\1reply .number ≡ 0 "),
+        ("a promise takes an equation in place of the predicate", promise(r"(pub solving : .*?→ )Solved [^→]*", r"\1reply.number ≡ 0 "),
             [f"{solving}{lost}"]),
-        ("a promise takes a fact of an outcome", promise(r"(pub solving : .*?→ Solved [^→]*→ )", r"\1Bytes sets′ → "), [f"{solving}takes Bytes of an outcome"]),
+        ("a promise takes a fact of an outcome", promise(r"(pub solving : .*?→ Solved [^→]*→ )", r"\1Bytes sets' → "), [f"{solving}takes Bytes of an outcome"]),
         ("a promise gives the predicate's name to a variable", promise(r"(pub solving : \()", r"\1Solved "), [f"{solving}gives the name Solved to something else"]),
         ("a fact is listed that no promise takes", page(r"(^## What a promise takes\n.*?---\|\n)", rf"\1| `{other}` | none |\n"),
             [f"{PROMISES}: ReadBack: no promise takes it"]),
-        ("a promise is about outcomes that leave the buffers alone", promise(r"(pub solving : .*?→ Solved [^→]*) sets′ next′ →", r"\1 sets next →"),
+        ("a promise is about outcomes that leave the buffers alone", promise(r"(pub solving : .*?→ Solved [^→]*) sets' next' →", r"\1 sets next →"),
             [f"{solving}takes Solved with an outcome that is not a variable of its own"]),
-        ("a promise takes what is promised, and no exception says so", no_exception("one-outcome"),
-            [f"{PROMISES}: Promises.one-outcome: {wrong}" for wrong in (lost, lost.replace("reply", "reply₁"), f"takes OfSolving, {neither}")]),
+        ("a promise takes what is promised, and no exception says so", no_exception("one_outcome"),
+            [f"{PROMISES}: Promises.one_outcome: {wrong}" for wrong in (lost, lost.replace("reply", "reply₁"), f"takes OfSolving, {neither}")]),
         ("the promises name another function", promise(r"solver::solving::solve\b", "solver::solving::solve_for"),
             [f"{PROMISES}: Solved: crates/solver/src/solving.rt: solve_for does not ensure it"]),
     ]

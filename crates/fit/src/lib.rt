@@ -11,7 +11,7 @@
 pub mod checking; // the check of three records
 mod complete; // incomplete: a state that the controller reaches has no row for some u
 mod judging; // what the triples are asked
-pub mod panel; // the entries for C
+pub mod panel; // what the panel takes, with the contracts of the entries for C
 mod sets; // the sets of all controller states
 mod triples; // the triples, grown by sweeps
 mod verdict; // the core: the verdict, of a skid and a next table

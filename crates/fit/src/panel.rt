@@ -1,4 +1,5 @@
-// The panel's entries for C: reading of the three records, writing of a controller, and the check. Each is one call of the plain function.
+// What the panel takes: reading of the three records, writing of a controller, and the check. Each is one call of the plain function. The crate fit_c has
+// the entries for C, which call these.
 ghost use Rattle.rules.specs.Writing.{ControllerWritten};
 ghost use Rattle.verdicts.specs.Check.{Checked};
 ghost use Rattle.fit.specs.Panel.{ContextReplied, SpecificationReplied, ControllerReplied};
@@ -9,16 +10,14 @@ use records::readers::{read_context, read_controller, read_specification};
 use rules::Reply;
 use writing::write_controller;
 
-#[unsafe(no_mangle)]
-pub extern "C" fn mortarleaf_read_context(bytes: &[u8]) -> Reply
+pub fn mortarleaf_read_context(bytes: &[u8]) -> Reply
     ensures { ContextReplied bytes.now result }
 {
     let read = read_context(bytes);
     read.reply
 }
 
-#[unsafe(no_mangle)]
-pub extern "C" fn mortarleaf_read_specification(bytes: &[u8]) -> Reply
+pub fn mortarleaf_read_specification(bytes: &[u8]) -> Reply
     ensures { SpecificationReplied bytes.now result }
 {
     let read = read_specification(bytes);
@@ -26,8 +25,7 @@ pub extern "C" fn mortarleaf_read_specification(bytes: &[u8]) -> Reply
 }
 
 // The steps go into the lent next table.
-#[unsafe(no_mangle)]
-pub extern "C" fn mortarleaf_read_controller(bytes: &[u8], next: &mut [u16]) -> Controller
+pub fn mortarleaf_read_controller(bytes: &[u8], next: &mut [u16]) -> Controller
     ensures { ControllerReplied bytes.now next.old result next.new }
 {
     let read = read_controller(bytes, next);
@@ -45,8 +43,7 @@ pub extern "C" fn mortarleaf_read_controller(bytes: &[u8], next: &mut [u16]) -> 
 }
 
 // The record goes into the lent bytes, from the start place on.
-#[unsafe(no_mangle)]
-pub extern "C" fn mortarleaf_write_controller(
+pub fn mortarleaf_write_controller(
     u: u32,
     v: u32,
     states: u32,
@@ -60,8 +57,7 @@ pub extern "C" fn mortarleaf_write_controller(
 }
 
 // The reached pairs of each controller state go into the lent numbers.
-#[unsafe(no_mangle)]
-pub extern "C" fn mortarleaf_check(
+pub fn mortarleaf_check(
     context: &[u8],
     specification: &[u8],
     controller: &[u8],

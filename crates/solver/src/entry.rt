@@ -1,12 +1,11 @@
-// The configurator's entry for C: one call of the plain function.
+// What the configurator takes: one call of the plain function. The crate solver_c has the entry for C, which calls this.
 ghost use Rattle.answers.specs.Solve.{Solved};
 
 use super::solving::solve;
 use rules::Reply;
 
 // The sets and the next states of the answer go into the lent numbers.
-#[unsafe(no_mangle)]
-pub extern "C" fn mortarleaf_solve(
+pub fn mortarleaf_solve(
     mode: u32,
     context: &[u8],
     specification: &[u8],

@@ -7,7 +7,7 @@
 
 mod deletion; // rounds that delete the states that do not pass
 mod discovery; // the sets reached, numbered by first discovery
-pub mod entry; // the entry for C
+pub mod entry; // what the configurator takes, with the contract of the entry for C
 mod fresh; // the states that are left, numbered afresh
 mod numbering; // a set among those found, and one step more
 mod passing; // the test of a state
