@@ -36,9 +36,9 @@ use Rattle.promises.proofs.Checking.{checking_keeps}
 use Rattle.promises.proofs.Together.{written_fits, inside}
 use Rattle.promises.proofs.OneAnswer.{solving_determined}
 
-not-true : (b : Bool) → ¬ (b ≡ true) → b ≡ false
-not-true true n = absurd (n refl)
-not-true false n = refl
+not_true : (b : Bool) → ¬ (b ≡ true) → b ≡ false
+not_true true n = absurd (n refl)
+not_true false n = refl
 
 module _ (mode : ℕ) (context specification sets next : List ℕ) (reply : Reply) (sets' next' : List ℕ) (done : Solved mode context specification sets next reply sets' next') where
   abbrev k : Skid
@@ -50,7 +50,7 @@ module _ (mode : ℕ) (context specification sets next : List ℕ) (reply : Repl
     over_exactly = too_many_exactly k every_input (legal_skid context specification can.context_sound can.specification_sound)
 
     few_found : (¬ TooManySets context specification) → (plain k).over ≡ false
-    few_found few = not-true (plain k).over (λ e. few (over_exactly.0 e))
+    few_found few = not_true (plain k).over (λ e. few (over_exactly.0 e))
 
     -- mode 1, where the plain states are few enough: the start is kept or not
     answered : mode_of mode ≡ Known Unblocked → (plain k).over ≡ false
@@ -90,7 +90,7 @@ module _ (mode : ℕ) (context specification sets next : List ℕ) (reply : Repl
   settled : (reply.number ≡ 0) ⊎ (reply.number ≡ (answer_reply (None 0)).number) → Solvable context specification sets next × ((plain k).over ≡ false)
   settled h =
       let ((w, m), can) = answered_solvable mode context specification sets next reply sets' next' done (⊎_elim inl (λ z. inr (inr z)) h) in
-      (can, not-true (plain k).over (λ over. let e = (number_too_many mode context specification sets next reply sets' next' done m can).1 over in ⊎_elim (λ z. omega arith) (λ z. omega arith) h))
+      (can, not_true (plain k).over (λ over. let e = (number_too_many mode context specification sets next reply sets' next' done m can).1 over in ⊎_elim (λ z. omega arith) (λ z. omega arith) h))
 
   module _ (m : mode_of mode ≡ Known Unblocked) where
     settled_answer : (reply.number ≡ 0) ⊎ (reply.number ≡ (answer_reply (None 0)).number)

@@ -9,7 +9,7 @@ use rules::{ABSENT, Reply};
 // The line of place p, where the table has a step. The place behind it.
 fn put_place(out: &mut [u8], at: usize, p: usize, u: usize, v: usize, to: u16) -> usize
     requires codes { Codes u v p }
-    requires to_in_bounds { at + length (step_lines u v p (to ∷ [])) ≤ length out.old }
+    requires room { at + length (step_lines u v p (to ∷ [])) ≤ length out.old }
     ensures { Appends at (step_lines u v p (to ∷ [])) out.old result out.new }
 {
     if to == ABSENT {
@@ -28,7 +28,7 @@ fn put_place(out: &mut [u8], at: usize, p: usize, u: usize, v: usize, to: u16) -
 // The lines of the first `size` places.
 fn put_steps(out: &mut [u8], at: usize, next: &[u16], size: usize, u: usize, v: usize) -> usize
     requires codes { Codes u v size × (size ≤ length next.now) }
-    requires next_in_bounds { at + length (step_lines u v 0 (take size next.now)) ≤ length out.old }
+    requires room { at + length (step_lines u v 0 (take size next.now)) ≤ length out.old }
     ensures { Appends at (step_lines u v 0 (take size next.now)) out.old result out.new }
 {
     let mut end = at;
@@ -43,7 +43,7 @@ fn put_steps(out: &mut [u8], at: usize, next: &[u16], size: usize, u: usize, v: 
 // The answer of solving: its first line and its table, or the refusal.
 pub(crate) fn put_answer(out: &mut [u8], u: u32, v: u32, reply: Reply, next: &[u16]) -> usize
     requires tabled { Tabled u v reply next.now }
-    requires next_in_bounds { length (solved_text u v reply next.now) ≤ length out.old }
+    requires room { length (solved_text u v reply next.now) ≤ length out.old }
     ensures { Appends 0 (solved_text u v reply next.now) out.old result out.new }
 {
     if reply.number != 0 {

@@ -108,8 +108,8 @@ module _ (s : System) (m : SetAutomaton s) where
       from : (a : A) (c : C) → has q' a c → Reached s (has q) l a c
       from a c = ((subst (StepLaw s has q l) e (next_has q o l)).1 a c).0
 
-  good→at-start : (X : Words (Letter s)) → Good s X → GoodAt start X
-  good→at-start X g = record {
+  good→at_start : (X : Words (Letter s)) → Good s X → GoodAt start X
+  good→at_start X g = record {
     controller = g.controller;
     signals = g.signals;
     within = λ a c h. subst₂ (λ a c. StaysWithin (start_at s a c) X) (sym ((start_has a c).0 h).0) (sym ((start_has a c).0 h).1) g.within;
@@ -151,7 +151,7 @@ module _ (s : System) (m : SetAutomaton s) where
 
     -- "It contains every controller, of any size, that does these three": after any number of rounds
     pub good_part : (j : ℕ) (X : Words (Letter s)) → Good s X → X ⊆ Unblocked s m f j
-    good_part j X g = keeps_after j start start_ok X (good→at-start X g)
+    good_part j X g = keeps_after j start start_ok X (good→at_start X g)
 
     -- "'None' is given exactly when there is no such controller."
     pub none_iff_no_good : (n : ℕ) → Rounds s m f n → (¬ T (after s m f n start)) ↔ ((X : Words (Letter s)) → ¬ Good s X)

@@ -96,7 +96,7 @@ fn put_row(out: &mut [u8], p: usize, u: usize, v: usize, to: u16)
 // The row of place p, at the place `at` of the buffer, where there is one. The next place of the buffer.
 fn put_place(out: &mut [u8], at: usize, p: usize, u: usize, v: usize, to: u16) -> usize
     requires codes { Codes u v }
-    requires to_in_bounds { at + length (rows_bytes u v p (to ∷ [])) ≤ length out.old }
+    requires room { at + length (rows_bytes u v p (to ∷ [])) ≤ length out.old }
     ensures { (result ≡ at + length (rows_bytes u v p (to ∷ [])))
         × (out.new ≡ spliced_at at (rows_bytes u v p (to ∷ [])) out.old) }
 {
@@ -110,7 +110,7 @@ fn put_place(out: &mut [u8], at: usize, p: usize, u: usize, v: usize, to: u16) -
 // The rows of the first `size` places, from the front of the buffer on.
 fn put_rows(out: &mut [u8], next: &[u16], size: usize, u: usize, v: usize)
     requires codes { Codes u v }
-    requires size_in_bounds { (size ≤ length next.now) × (length (rows_bytes u v 0 (take size next.now)) ≤ length out.old) }
+    requires room { (size ≤ length next.now) × (length (rows_bytes u v 0 (take size next.now)) ≤ length out.old) }
     ensures { out.new ≡ leading (rows_bytes u v 0 (take size next.now)) out.old }
 {
     let mut at = 0;
@@ -124,7 +124,7 @@ fn put_rows(out: &mut [u8], next: &[u16], size: usize, u: usize, v: usize)
 // A whole record at the front of the buffer, which is long enough.
 fn put_record(out: &mut [u8], u: u32, v: u32, states: u32, next: &[u16], size: usize, rows: usize)
     requires writable { Writable u v states next.now size rows }
-    requires next_in_bounds { length (controller_bytes u v states next.now) ≤ length out.old }
+    requires room { length (controller_bytes u v states next.now) ≤ length out.old }
     ensures { out.new ≡ leading (controller_bytes u v states next.now) out.old }
 {
     put_head(out, u, v, states, rows);

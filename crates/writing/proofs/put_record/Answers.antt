@@ -12,7 +12,7 @@ pub slice_bounds-put_rows-start : goal.slice_bounds-put_rows-start
 slice_bounds-put_rows-start c = search head_left
 
 pub put_rows-requires : goal.put_rows-requires
-put_rows-requires c = record { codes = search rules; size_in_bounds = (search rules, search rows_room) }
+put_rows-requires c = record { codes = search rules; room = (search rules, search rows_room) }
 
 pub returns : goal.returns
 returns c = search record_out

@@ -6,7 +6,7 @@ pub loop-p-init : goal.loop-p-init
 loop-p-init c = (search rules, search none_long, search leading_none)
 
 pub put_place-at-requires : goal.put_place-at-requires
-put_place-at-requires c = record { codes = search rules; to_in_bounds = search turn_room }
+put_place-at-requires c = record { codes = search rules; room = search turn_room }
 
 pub loop-p-preserved : goal.loop-p-preserved
 loop-p-preserved c = (search rules, search turn_at, search turn_out)

@@ -40,7 +40,7 @@ pub returns-then-bad-size : goal.returns-then-bad-size
 returns-then-bad-size c = search place_refused
 
 pub put_record-requires : goal.put_record-requires
-put_record-requires c = record { writable = search is_writable; next_in_bounds = search (record_room, c.survey_of-s.ensures, c.if-out-start-2.false) }
+put_record-requires c = record { writable = search is_writable; room = search (record_room, c.survey_of-s.ensures, c.if-out-start-2.false) }
 
 pub returns : goal.returns
 returns c = search record_written

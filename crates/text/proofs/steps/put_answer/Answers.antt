@@ -17,7 +17,7 @@ pub overflow_mul-size-2 : goal.overflow_mul-size-2
 overflow_mul-size-2 c = record { fits = search size_fits }
 
 pub put_steps-requires : goal.put_steps-requires
-put_steps-requires c = record { codes = (search codes_are, search places_are); next_in_bounds = search steps_room }
+put_steps-requires c = record { codes = (search codes_are, search places_are); room = search steps_room }
 
 pub returns : goal.returns
 returns c = search solved_appends

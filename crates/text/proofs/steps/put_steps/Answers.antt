@@ -6,7 +6,7 @@ pub loop-p-init : goal.loop-p-init
 loop-p-init c = (search rules, search none_appends)
 
 pub put_place-end-requires : goal.put_place-end-requires
-put_place-end-requires c = record { codes = search codes_before; to_in_bounds = search turn_room }
+put_place-end-requires c = record { codes = search codes_before; room = search turn_room }
 
 pub loop-p-preserved : goal.loop-p-preserved
 loop-p-preserved c = (search rules, search turn_appends)
