@@ -1,4 +1,6 @@
 pub mod Inside
+pub mod Props
+pub mod Ready
 pub mod Skids
 pub mod Steps
 pub mod Usable

@@ -7,6 +7,7 @@ pub mod skids; // the two records of a skid, and their counts side by side
 pub mod steps; // a next table, by state and letter
 pub mod usable; // what each state of a next table is asked: a row for each u, a continuation for each i
 pub mod zeros; // zeros behind what was written
+pub mod ready; // a skid made ready, with what its parts have in common
 
 // The largest specification: 64 states, 8 i and 8 o.
 pub const SPECIFICATION_NUMBERS: usize = 4096;
