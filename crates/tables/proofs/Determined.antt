@@ -4,13 +4,17 @@ use mathlib.Core.Path.{◌≡◌}
 use mathlib.Core.Bool.{Bool}
 use mathlib.Core.List.{List}
 use Prim.Native.Nat.{ℕ}
+use Rattle.std.specs.Prelude.{Option}
 use Rattle.pairs.specs.declared.CtxState.{CtxState}
 use Rattle.pairs.specs.declared.SpecState.{SpecState}
 use Rattle.pairs.proofs.Determined.{determined}
 use Rattle.rules.specs.declared.Counts.{Counts}
 use Rattle.rules.specs.declared.ContextRow.{ContextRow}
+use Rattle.rules.specs.declared.StateRows.{StateRows}
 use Rattle.tables.specs.declared.Sizes.{Sizes}
+use Rattle.tables.specs.declared.ready.ReadySkid.{ReadySkid}
 use Rattle.tables.specs.declared.skids.SkidReading.{SkidReading}
+use Rattle.tables.specs.Ready.{RowsRead, SpecificationStepped, AnsweringAll, ContinuingFrom}
 use Rattle.tables.specs.Skids.{RecordsRead, SidedBy}
 use Rattle.tables.specs.Steps.{NextRead, SpecificationNextRead, ControllerNextRead}
 use Rattle.tables.specs.Usable.{Answering, Continuing}
@@ -38,3 +42,16 @@ answering_determined n_u n_v next s b d = determined
 pub continuing_determined : (context index : List ℕ) (a : CtxState) (next : List ℕ) (inputs replies letters s : ℕ) (b d : Bool)
     → Continuing context index a next inputs replies letters s b → Continuing context index a next inputs replies letters s d → b ≡ d
 continuing_determined context index a next inputs replies letters s b d = determined
+
+pub rows_read_determined : (r : ReadySkid) (a : CtxState) (x y : StateRows) → RowsRead r a x → RowsRead r a y → x ≡ y
+rows_read_determined r a x y = determined
+
+pub specification_stepped_determined : (r : ReadySkid) (c : SpecState) (row : ContextRow) (x y : Option SpecState)
+    → SpecificationStepped r c row x → SpecificationStepped r c row y → x ≡ y
+specification_stepped_determined r c row x y = determined
+
+pub answering_all_determined : (r : ReadySkid) (next : List ℕ) (s : ℕ) (b d : Bool) → AnsweringAll r next s b → AnsweringAll r next s d → b ≡ d
+answering_all_determined r next s b d = determined
+
+pub continuing_from_determined : (r : ReadySkid) (a : CtxState) (next : List ℕ) (s : ℕ) (b d : Bool) → ContinuingFrom r a next s b → ContinuingFrom r a next s d → b ≡ d
+continuing_from_determined r a next s b d = determined

@@ -2,6 +2,9 @@ pub mod ZeroLaws
 pub mod StepLaws
 pub mod FirstRowLaws
 pub mod IndexLaws
+pub mod ReadyLaws
+pub mod ReadyScanLaws
+pub mod ReadyFoldLaws
 pub mod JointLaws
 pub mod LowestLaws
 pub mod RestLaws
