@@ -2,7 +2,8 @@
 ghost use Rattle.std.specs.Prelude.{◌≡◌};
 ghost use Rattle.rules.specs.Tables.{specification_table};
 ghost use Rattle.answers.specs.Solve.{solution, Solved, SolvedFor};
-ghost use Rattle.tables.specs.Inside.{skid_in, Workable, Indexed};
+ghost use Rattle.tables.specs.Inside.{skid_in, Workable};
+ghost use Rattle.tables.specs.Ready.{ready_skid};
 ghost use Rattle.tables.specs.Skids.{SkidRead};
 ghost use Rattle.solver.specs.Inside.{Long, Answered};
 ghost use Rattle.solver.specs.Matched.{match_refusal, Matched};
@@ -14,6 +15,7 @@ use answers::{Answer, Mode, Wanted, mode_of};
 use pairs::PAIR_LIMIT;
 use records::tables::fill_specification;
 use rules::{Counts, NEXT_NUMBERS, Reply, SET_NUMBERS, STATE_LIMIT, refused, succeeded};
+use tables::ready::ReadySkid;
 use tables::rows::index_rows;
 use tables::skids::{read_skid, sizes_of};
 use tables::{INDEX, SPECIFICATION_NUMBERS, Sizes};
@@ -42,26 +44,18 @@ fn match_refusal(c: Counts, s: Counts, sets: usize, next: usize) -> Reply
 }
 
 // The answer that is wanted.
-fn solve_wanted(
-    wanted: Wanted,
-    context: &[u8],
-    index: &[usize],
-    specification: &[u16],
-    sizes: Sizes,
-    sets: &mut [u64],
-    next: &mut [u16],
-) -> Answer
-    requires { Workable sizes context.now specification.now × Indexed context.now sizes.contexts index.now × Long sets.old next.old }
-    ensures { Answered (solution wanted (skid_in sizes context.now specification.now)) result
+fn solve_wanted(wanted: Wanted, skid: &ReadySkid, sets: &mut [u64], next: &mut [u16]) -> Answer
+    requires { Long sets.old next.old }
+    ensures { Answered (solution wanted (ready_skid skid.now)) result
         sets.new next.new sets.old next.old }
 {
     match wanted {
-        Wanted::Plain => plain(context, index, specification, sizes, sets, next),
-        Wanted::Unblocked => unblocked(context, index, specification, sizes, sets, next),
+        Wanted::Plain => plain(skid, sets, next),
+        Wanted::Unblocked => unblocked(skid, sets, next),
     }
 }
 
-// The same of a context's record and a specification's next table: the rows of each context state are found first.
+// The same of a context's record and a specification's next table: the rows of each context state are found first, and the skid is ready.
 fn solve_tables(
     wanted: Wanted,
     context: &[u8],
@@ -76,7 +70,13 @@ fn solve_tables(
 {
     let mut index = [0usize; INDEX];
     index_rows(context, sizes.contexts as u32, &mut index);
-    solve_wanted(wanted, context, &index, specification, sizes, sets, next)
+    let skid = ReadySkid {
+        context,
+        index: &index,
+        specification,
+        sizes,
+    };
+    solve_wanted(wanted, &skid, sets, next)
 }
 
 // The same of two records that match: the specification becomes a next table.
