@@ -7,20 +7,21 @@ use Prim.Native.Nat.{ℕ, ◌+◌, ◌-◌, ◌%◌, ◌≤◌, ◌<◌}
 use native.Mathlib.Omega.{arith}
 use lib.Dec.{ltb, eqb}
 use lib.ListN.{length, get_or, take, drop, length-take, length-drop}
+use lib.Pointwise.{pointwise}
 use lib.Seq.{get_or-take, get_or-drop}
-use borrow.Author.Tests.{eq-eqb, ne_eqb, lt-ltb, le-ltb, ltb-false}
-use Rattle.pairs.specs.Scans.{all_with, same}
+use borrow.Author.Tests.{lt-ltb, le-ltb, ltb-false}
+use Rattle.pairs.specs.Scans.{same}
 use Rattle.rules.specs.declared.Kind.{Kind}
-use Rattle.records.specs.declared.Shape.{Shape}
+use Rattle.records.specs.declared.layouts.Layout as code
 use Rattle.rules.specs.declared.Fault.{Fault}
 use Rattle.rules.specs.declared.Fault.TheVariants.{Sound, Length, Cut, Limit}
 use Rattle.rules.specs.declared.Fault.TheVariants as found
 use Rattle.rules.specs.Layouts.{Layout, layout_of}
 use Rattle.rules.specs.Records.{length_in, kind_in, head_size, row_size, counts_in, row_count, rows_in}
 use Rattle.rules.specs.Faults.{is_sound, in_limits, head_fault, rows_fault, fault}
-use Rattle.records.specs.Inside.{Held, ShapeOf}
+use Rattle.records.specs.Inside.{Held, LaidOut}
 use Rattle.rules.proofs.ByPlace.{length_numbers}
-use Rattle.records.proofs.NumberLaws.{front_held}
+use Rattle.records.proofs.NumberLaws.{pointwise_same, front_held}
 use Rattle.records.proofs.KindLaws.{laid}
 use Rattle.rules.proofs.Sound.{sound, or_false, head_sound}
 
@@ -43,33 +44,20 @@ kind_two b h =
     let e : length (kind_in b) ≡ 2 = simp (length-take, length-drop) (omega arith) in
     two (kind_in b) e ∙ rw (get_or-take 2 (drop 2 b) 0 0 (omega arith), get_or-take 2 (drop 2 b) 1 0 (omega arith), get_or-drop 2 b 0 0, get_or-drop 2 b 1 0)
 
-module _ (b : List ℕ) (x y : ℕ) (whole : 4 ≤ length b) where
-  pub first_differs : (get_or b 2 0 ≡ x → ⊥) → true ≡ not (same (kind_in b) (x ∷ y ∷ []))
-  unfolding all_with
-  first_differs d = rw (kind_two b whole, ne_eqb (get_or b 2 0) x d)
-
-  pub second_decides : get_or b 2 0 ≡ x → not (eqb (get_or b 3 0) y) ≡ not (same (kind_in b) (x ∷ y ∷ []))
-  unfolding all_with
-  second_decides e = go (eqb (get_or b 3 0) y) refl
-    where
-      go : (t : Bool) → eqb (get_or b 3 0) y ≡ t → not t ≡ not (same (kind_in b) (x ∷ y ∷ []))
-      go true q = rw (kind_two b whole, eq-eqb (get_or b 2 0) x e, q)
-      go false q = rw (kind_two b whole, eq-eqb (get_or b 2 0) x e, q)
-
-pub kind_told : (kind known : Kind) → kind ≡ known → (b bytes : List ℕ) (r : Bool) → bytes ≡ (layout_of known).kind → r ≡ not (same (kind_in b) bytes)
-    → r ≡ not (same (kind_in b) (layout_of kind).kind)
-kind_told kind known is b bytes r e q = q ∙ rw (is, e)
+pub kind_told : (l : Layout) (s : code.Layout) → LaidOut l s → (b : List ℕ) → 4 ≤ length b → (r : Bool)
+    → r ≡ not (pointwise eqb (get_or b 2 0 ∷ get_or b 3 0 ∷ []) s.kind) → r ≡ not (same (kind_in b) l.kind)
+kind_told l s known b whole r e = e ∙ rw (pointwise_same, kind_two b whole, known.kind_is)
 
 -- 3
-module _ (l : Layout) (s : Shape) (shape : ShapeOf l s) (b : List ℕ) where
+module _ (l : Layout) (s : code.Layout) (known : LaidOut l s) (b : List ℕ) where
   abbrev cut : Bool
   cut = ltb (length b) (head_size l) || not (eqb ((length b - head_size l) % row_size l) 0)
 
-  pub head_cut : length b < s.head → true ≡ cut
-  head_cut h = rw (lt-ltb (length b) (head_size l) (omega (arith, shape.head_is)))
+  pub head_cut : length b < s.head_size → true ≡ cut
+  head_cut h = rw (lt-ltb (length b) (head_size l) (omega (arith, known.head_is)))
 
-  pub row_cut : s.head ≤ length b → not (eqb ((length b - s.head) % s.row) 0) ≡ cut
-  row_cut h = rw (le-ltb (length b) (head_size l) (omega (arith, shape.head_is)), shape.head_is, shape.row_is)
+  pub row_cut : s.head_size ≤ length b → not (eqb ((length b - s.head_size) % s.row_size) 0) ≡ cut
+  row_cut h = rw (le-ltb (length b) (head_size l) (omega (arith, known.head_is)), known.head_is, known.row_is)
 
 -- 4
 module _ (kind : Kind) (b : List ℕ) where
@@ -89,8 +77,8 @@ module _ (kind : Kind) (b : List ℕ) where
     pub counts_outside : flag ≡ false → true ≡ outside
     counts_outside e = sym (rw (limits_are, e))
 
-    pub rows_decide : flag ≡ true → (s : Shape) → ShapeOf l s → (n : ℕ) → n ≡ row_count l b → ltb s.rows n ≡ outside
-    rows_decide e s shape n counted = sym (rw (limits_are, e, ← shape.rows_are, ← counted))
+    pub rows_decide : flag ≡ true → (s : code.Layout) → LaidOut l s → (n : ℕ) → n ≡ row_count l b → ltb s.row_limit n ≡ outside
+    rows_decide e s known n counted = sym (rw (limits_are, e, ← known.rows_are, ← counted))
 
   -- the four in their order
   module _ (short : Bool) (short_is : short ≡ (ltb (length b) 4 || not (eqb (length_in b + 2) (length b)))) where

@@ -3,7 +3,7 @@
 use Rattle.std.specs.Prelude.{if◌then◌else◌}
 use mathlib.Core.Path.{◌≡◌, sym, ◌∙◌}
 use mathlib.Core.Bool.{Bool, true, false, ◌&&◌}
-use mathlib.Core.List.{List, [], ◌∷◌}
+use mathlib.Core.List.{List}
 use Prim.Native.Nat.{ℕ, ◌+◌, ◌≤◌, ◌<◌}
 use native.Mathlib.Omega.{arith}
 use lib.Dec.{leb}
@@ -12,10 +12,10 @@ use lib.Seq.{get_or-take, length-take-le}
 use borrow.Author.Tests.{le-leb, lt-leb}
 use Rattle.pairs.proofs.Scans.{with_step, with_done}
 use Rattle.rules.specs.declared.Kind.{Kind}
-use Rattle.rules.specs.declared.Kind.TheVariants.{Context, Specification, Controller}
-use Rattle.rules.specs.Limits.{state_limit}
-use Rattle.rules.specs.Layouts.{context_layout, specification_layout, controller_layout, layout_of}
-use Rattle.rules.specs.Faults.{in_limits}
+use Rattle.rules.specs.Layouts.{layout_of}
+use Rattle.rules.specs.Faults.{in_limits, Limited}
+use Rattle.records.specs.declared.layouts.Layout as code
+use Rattle.records.specs.Inside.{LaidOut}
 
 -- as many counts as limits, from place k on
 abbrev pub limits_from : List ℕ → List ℕ → ℕ → Bool
@@ -47,15 +47,5 @@ module _ (counts limits : List ℕ) (k : ℕ) where
       sym (whole ∙ with_done (λ x l. leb 1 x && leb x l) (take (length limits) counts) limits k behind end)
 
 -- the limits of the kind
-module _ (kind : Kind) (counts : List ℕ) (r : Bool) where
-  pub context_limits : kind ≡ Context → r ≡ in_limits (take 5 counts) (8 ∷ 8 ∷ 4 ∷ 4 ∷ 64 ∷ []) → r ≡ in_limits (take (length (layout_of kind).limits) counts) (layout_of kind).limits
-  unfolding context_layout
-  context_limits e h = rw e h
-
-  pub specification_limits : kind ≡ Specification → r ≡ in_limits (take 3 counts) (8 ∷ 8 ∷ 64 ∷ []) → r ≡ in_limits (take (length (layout_of kind).limits) counts) (layout_of kind).limits
-  unfolding specification_layout
-  specification_limits e h = rw e h
-
-  pub controller_limits : kind ≡ Controller → r ≡ in_limits (take 3 counts) (4 ∷ 4 ∷ 512 ∷ []) → r ≡ in_limits (take (length (layout_of kind).limits) counts) (layout_of kind).limits
-  unfolding controller_layout state_limit
-  controller_limits e h = rw e h
+pub limits_told : (kind : Kind) (s : code.Layout) → LaidOut (layout_of kind) s → (counts : List ℕ) (r : Bool) → r ≡ in_limits (take (length s.limits.now) counts) s.limits.now → Limited kind counts r
+limits_told kind s known counts r e = rw (← known.limits_are) e

@@ -4,14 +4,14 @@
 use mathlib.Core.Path.{◌≡◌, refl, sym, ap, ◌∙◌}
 use mathlib.Core.Bool.{Bool, true, false}
 use mathlib.Core.List.{List, [], ◌∷◌}
-use Prim.Native.Nat.{ℕ, zero, suc, ◌+◌, ◌*◌, ◌^◌, ◌≤◌, ◌<◌}
-use native.Mathlib.Nat.{add-zero, zero-add}
+use Prim.Native.Nat.{ℕ, zero, suc, max, ◌+◌, ◌*◌, ◌≤◌, ◌<◌}
+use native.Mathlib.Nat.{add-zero, zero-add, max-eq_left, max-eq_right}
 use native.Mathlib.Numerals.{add-one}
 use native.Mathlib.Omega.{arith}
-use lib.Dec.{leb}
+use lib.Dec.{leb, ltb}
 use lib.ListN.{length, get_or, drop, replicate, drop_of_length-le, get_or-eq_default}
 use lib.Seq.{drop-cons, drop-drop}
-use borrow.Author.Tests.{le-leb, lt-leb}
+use borrow.Author.Tests.{le-leb, lt-leb, ltb-true, ltb-false}
 use Rattle.pairs.specs.Scans.{first_place, total}
 use Rattle.rules.specs.declared.ContextRow.{ContextRow}
 use Rattle.rules.specs.declared.Counts.{Counts}
@@ -20,12 +20,13 @@ use Rattle.rules.specs.declared.Kind.TheVariants.{Context, Specification, Contro
 use Rattle.rules.specs.declared.StateRows.{StateRows}
 use Rattle.rules.specs.Layouts.{context_layout, layout_of}
 use Rattle.rules.specs.Bytes.{little, numbers}
-use Rattle.rules.specs.Records.{rows_of, counts_in, row_count, rows_in}
+use Rattle.rules.specs.Records.{rows_of, head_size, counts_in, row_count, rows_in}
 use Rattle.rules.specs.Counts.{counts_of}
 use Rattle.rules.specs.Tables.{row_state, has_key, row_number}
 use Rattle.rules.specs.ContextRows.{first_row, context_row, state_rows}
-use Rattle.records.specs.Inside.{Held}
-use Rattle.records.proofs.KindLaws.{context_shape, row_starts, row_offset_fits, row_start_fits}
+use Rattle.records.specs.declared.layouts.Layout as code
+use Rattle.records.specs.Inside.{Held, LaidOut}
+use Rattle.records.proofs.KindLaws.{row_starts}
 use Rattle.rules.proofs.ByPlace.{rows_at, rows_there}
 use Rattle.records.proofs.NumberLaws.{at_held}
 use Rattle.rules.proofs.NextTables.{get_d_replicate_same}
@@ -85,19 +86,13 @@ module _ (b : List ℕ) (k : ℕ) (row : List ℕ) where
       as_row (λ j. rw (e, get_or-eq_default (rows_in context_layout b) [] less) (get_d_replicate_same 6 j 0))
 
 -- its state is one byte
-module _ (b : List ℕ) (k : ℕ) (h : k < row_count context_layout b) where
-  pub state_offset_fits : length b < 2 ^ 64 → k * 6 < 2 ^ 64
-  state_offset_fits = row_offset_fits context_layout _ (context_shape Context refl) b k h
+module _ (s : code.Layout) (known : LaidOut context_layout s) (b : List ℕ) (k : ℕ) (h : k < row_count context_layout b) where
+  pub state_near : s.head_size + k * s.row_size ≤ length b + 64
+  state_near = omega (arith, row_starts context_layout s known b k h)
 
-  pub state_place_fits : length b < 2 ^ 64 → 9 + k * 6 < 2 ^ 64
-  state_place_fits = row_start_fits context_layout _ (context_shape Context refl) b k h
-
-  pub state_near : 9 + k * 6 ≤ length b + 64
-  state_near = omega (arith, row_starts context_layout _ (context_shape Context refl) b k h)
-
-  pub state_read : (x : ℕ) → x ≡ little 1 (drop (9 + k * 6) b) → x ≡ row_state (get_or (rows_in context_layout b) k [])
-  unfolding context_layout total numbers
-  state_read x e = e ∙ sym (rw (rows_at (1 ∷ 1 ∷ 1 ∷ 1 ∷ 1 ∷ 1 ∷ []) (row_count context_layout b) k (drop 9 b) h, drop-drop))
+  pub state_read : (x : ℕ) → x ≡ little 1 (drop (s.head_size + k * s.row_size) b) → x ≡ row_state (get_or (rows_in context_layout b) k [])
+  unfolding context_layout numbers
+  state_read x e = e ∙ sym (rw (rows_at (1 ∷ 1 ∷ 1 ∷ 1 ∷ 1 ∷ 1 ∷ []) (row_count context_layout b) k (drop (head_size context_layout) b) h, drop-drop, known.head_is, known.row_is))
 
 -- ---- the first row of a state or above: the search from row k on gives what the search from row `from` on gives
 pub record Passed (rows : List (List ℕ)) (a from n k : ℕ) : Type 0 where
@@ -123,9 +118,20 @@ module _ (rows : List (List ℕ)) (a from n k : ℕ) (p : Passed rows a from n k
       left = place_later (λ r. leb a (row_state r)) rows k [] inside (rw (← state) (lt-leb a s h)) ∙ p.left;
     }
 
-  pub first_end : n ≤ k → k ≡ first_row rows a from
+  pub first_end : n ≤ k → (from ≤ n → k ≤ n) → (end : ℕ) → end ≡ max n from → end ≡ first_row rows a from
   unfolding first_row
-  first_end h = sym (place_end (λ r. leb a (row_state r)) rows k (rw p.counted at h)) ∙ p.left
+  first_end h few end e = go (ltb n from) refl
+    where
+      stopped : (j : ℕ) → n ≤ j → j ≡ first_row rows a j
+      stopped j g = sym (place_end (λ r. leb a (row_state r)) rows j (rw p.counted at g))
+
+      go : (t : Bool) → ltb n from ≡ t → end ≡ first_row rows a from
+      go true q = let g : n < from = ltb-true n from q in e ∙ rw (max-eq_right {n = n} {m = from} (omega arith)) (stopped from (omega arith))
+      go false q =
+          let g : from ≤ n = ltb-false n from q in
+          let l : max n from ≡ n = max-eq_left g in
+          let m : n ≡ k = omega (arith, few g) in
+          e ∙ l ∙ m ∙ stopped k h ∙ p.left
 
 pub rows_found : (b : List ℕ) (a from first end : ℕ) → first ≡ first_row (rows_in context_layout b) a from → end ≡ first_row (rows_in context_layout b) (a + 1) first
     → ◌≡◌ {A = StateRows} (record { first = first; end = end }) (state_rows b a from)

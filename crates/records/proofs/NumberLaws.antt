@@ -1,6 +1,7 @@
 -- What the functions that read numbers need: a byte that is not there counts as 0, numbers of one and two bytes, and an array of six that is
 -- filled number by number.
 -- Assumes nothing.
+use Rattle.std.specs.Prelude.{if◌then◌else◌}
 use mathlib.Core.Path.{◌≡◌, refl, sym, ap, ◌∙◌}
 use mathlib.Core.Bool.{Bool, true, false, ◌&&◌}
 use mathlib.Core.List.{List, [], ◌∷◌, ◌++◌}
@@ -9,16 +10,29 @@ use native.Mathlib.Nat.{not-suc-le-zero, le_of_suc-le-suc, add-zero}
 use native.Mathlib.Omega.{arith}
 use lib.Dec.{leb, eqb, leb→le}
 use lib.ListN.{length, get_or, take, drop, set, replicate, length-take, length-replicate, length-append, get_or-eq_default}
+use lib.Pointwise.{pointwise}
 use lib.Seq.{take_at, take-length, get_or-drop, drop-drop, get_or-set_same, get_or-set_other}
 use borrow.Author.Tests.{eqb-true, eqb-false}
 use mir.Facts.{and_yes}
-use Rattle.pairs.specs.Scans.{total}
+use Rattle.pairs.specs.Scans.{all_with, same, total}
 use Rattle.pairs.proofs.Scans.{all_yes}
 use Rattle.pairs.proofs.Lists.{at_mem}
 use Rattle.rules.proofs.ByPlace.{length_numbers, numbers_at}
 use Rattle.rules.proofs.NextTables.{get_d_replicate_same}
 use Rattle.rules.specs.Bytes.{little, numbers}
 use Rattle.records.specs.Inside.{padded, Small, Held, Sizes}
+
+-- what `==` answers of two lists of numbers
+pub pointwise_same : (xs ys : List ℕ) → pointwise eqb xs ys ≡ same xs ys
+unfolding all_with
+pointwise_same [] [] = refl
+pointwise_same [] (y ∷ ys) = refl
+pointwise_same (x ∷ xs) [] = refl
+pointwise_same (x ∷ xs) (y ∷ ys) = go (eqb x y) (pointwise_same xs ys)
+  where
+    go : (t : Bool) → pointwise eqb xs ys ≡ same xs ys → (t && pointwise eqb xs ys) ≡ (if t then same xs ys else false)
+    go true e = e
+    go false e = refl
 
 pub no_byte : (b : List ℕ) (at : ℕ) → length b ≤ at → 0 ≡ get_or b at 0
 no_byte b at h = sym (get_or-eq_default b 0 h)

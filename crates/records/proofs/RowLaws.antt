@@ -7,11 +7,11 @@ use mathlib.Core.List.{List, [], ◌∷◌}
 use Prim.Native.Nat.{ℕ, ◌+◌, ◌*◌, ◌^◌, ◌≤◌, ◌<◌}
 use native.Mathlib.Numerals.{add-one}
 use native.Mathlib.Omega.{arith}
-use lib.Dec.{T, leb, ltb, leb→le, ltb→lt}
+use lib.Dec.{ltb, ltb→lt}
 use lib.ListN.{length, get_or, take, drop, length-take, drop_of_length-le}
 use lib.Seq.{drop-cons, get_or-take, take-take}
 use borrow.Author.Tests.{eq-eqb, ne_eqb, lt-ltb, le-ltb}
-use Rattle.pairs.specs.Scans.{all, all_with, same, less}
+use Rattle.pairs.specs.Scans.{all_with, same, less}
 use Rattle.pairs.proofs.Scans.{all_yes, with_step, with_done}
 use Rattle.pairs.proofs.Lists.{at_mem}
 use Rattle.rules.specs.declared.Fault.{Fault}
@@ -22,7 +22,8 @@ use Rattle.records.specs.declared.Order.TheVariants.{Higher, Equal, Lower}
 use Rattle.rules.specs.Layouts.{Layout, layout_of}
 use Rattle.rules.specs.Faults.{is_sound, fields_below, key_of, row_fault}
 use Rattle.records.proofs.KindLaws.{Laid, laid}
-use Rattle.records.specs.Inside.{Places, fields_of, key_before, order_of}
+use Rattle.records.specs.declared.layouts.Layout as code
+use Rattle.records.specs.Inside.{LaidOut, Places, fields_of, key_before, order_of}
 
 pub sound_told : (f known : Fault) → f ≡ known → (r : Bool) → r ≡ is_sound known → r ≡ is_sound f
 sound_told f known is r e = e ∙ ap is_sound (sym is)
@@ -58,13 +59,10 @@ module _ (row counts places : List ℕ) (few : length places ≤ 6) (six : lengt
       pub below_on : get_or row j 0 < get_or counts (get_or places j 0) 0 → left (j + 1) ≡ fields_below counts (take (length places) row) places
       below_on h = sym (step ∙ rw (lt-ltb (get_or row j 0) (get_or counts (get_or places j 0) 0) h)) ∙ so_far
 
-pub below_told : (kind known : Kind) → kind ≡ known → (row counts places : List ℕ) (r : Bool) → places ≡ (layout_of known).below
-    → length places ≡ length (layout_of known).field_sizes → r ≡ fields_below counts (take (length places) row) places
-    → r ≡ fields_below counts (fields_of (layout_of kind) row) (layout_of kind).below
-below_told kind known is row counts places r e n q = q ∙ rw (is, n, e)
-
-pub places : (ps : List ℕ) → T (leb (length ps) 6) → T (all (λ p. ltb p 6) ps) → Places ps
-places ps few each = record { few = leb→le (length ps) 6 few; each = each }
+-- by the layout of the kind
+pub below_told : (kind : Kind) (s : code.Layout) → LaidOut (layout_of kind) s → (row counts : List ℕ) (r : Bool)
+    → r ≡ fields_below counts (take (length s.below.now) row) s.below.now → r ≡ fields_below counts (fields_of (layout_of kind) row) (layout_of kind).below
+below_told kind s known row counts r e = e ∙ rw (known.below_are, (laid kind).below_each)
 
 -- 6 and 7: the first fields that differ decide
 module _ (x y : ℕ) (xs ys : List ℕ) where

@@ -5,21 +5,10 @@ use Rattle.pairs.specs.Scans.{all, same, less}
 use Rattle.pairs.specs.Lent.{leading}
 use Rattle.records.specs.declared.Order.{Order}
 use Rattle.records.specs.declared.Order.TheVariants.{Higher, Equal, Lower}
-use Rattle.records.specs.declared.Shape.{Shape}
+use Rattle.records.specs.declared.layouts.Layout as code
 use Rattle.rules.specs.Layouts.{Layout}
 use Rattle.rules.specs.Records.{head_size, row_size}
 use Rattle.rules.specs.Faults.{key_of}
-
--- the sizes of a layout as the code has them
-pub record ShapeOf (l : Layout) (s : Shape) : Type 0 where
-  pub head_is : s.head ≡ head_size l
-  pub row_is : s.row ≡ row_size l
-  pub key_is : s.key ≡ l.key_size
-  pub rows_are : s.rows ≡ l.row_limit
-  pub head_few : s.head ≤ 16
-  pub row_some : 1 ≤ s.row
-  pub row_few : s.row ≤ 8
-  pub key_few : s.key ≤ 6
 
 -- numbers in an array of n places: behind them, zeros
 unfoldable pub padded : ℕ → List ℕ → List ℕ
@@ -43,6 +32,26 @@ pub record Sizes (ws : List ℕ) : Type 0 where
 pub record Places (ps : List ℕ) : Type 0 where
   pub few : length ps ≤ 6
   pub each : T (all (λ p. ltb p 6) ps)
+
+-- a layout as the code has it, with its sizes; and what reading by it needs
+pub record LaidOut (l : Layout) (s : code.Layout) : Type 0 where
+  pub kind_is : s.kind ≡ l.kind
+  pub count_sizes_are : s.count_sizes.now ≡ l.count_sizes
+  pub limits_are : s.limits.now ≡ l.limits
+  pub field_sizes_are : s.field_sizes.now ≡ l.field_sizes
+  pub below_are : s.below.now ≡ l.below
+  pub key_is : s.key_size ≡ l.key_size
+  pub rows_are : s.row_limit ≡ l.row_limit
+  pub head_is : s.head_size ≡ head_size l
+  pub row_is : s.row_size ≡ row_size l
+  pub count_sizes_known : Sizes s.count_sizes.now
+  pub limits_few : length s.limits.now ≤ 6
+  pub field_sizes_known : Sizes s.field_sizes.now
+  pub below_known : Places s.below.now
+  pub head_few : s.head_size ≤ 16
+  pub row_some : 1 ≤ s.row_size
+  pub row_few : s.row_size ≤ 8
+  pub key_few : s.key_size ≤ 6
 
 -- the fields of a row in an array of six, and the key of the row before row k
 abbrev pub fields_of : Layout → List ℕ → List ℕ

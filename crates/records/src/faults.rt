@@ -7,23 +7,9 @@ ghost use Rattle.rules.specs.Faults.{is_sound, in_limits, Limited, fields_below,
 ghost use Rattle.records.specs.Inside.{Places, fields_of, order_of, key_before};
 
 use super::Order;
-use super::layouts::{counts_of, row_count, row_of, shape_of};
+use super::layouts::{counts_of, layout_of, row_count, row_of};
 use super::numbers::number_at;
-use rules::{CONTEXT, CONTROLLER, Fault, Kind, SPECIFICATION, STATE_LIMIT};
-
-// The limit of each count.
-const CONTEXT_LIMITS: [u16; 5] = [8, 8, 4, 4, 64];
-
-const SPECIFICATION_LIMITS: [u16; 3] = [8, 8, 64];
-
-const CONTROLLER_LIMITS: [u16; 3] = [4, 4, STATE_LIMIT];
-
-// The place of the count that each field stays below.
-const CONTEXT_BELOW: [u8; 6] = [4, 0, 3, 2, 1, 4];
-
-const SPECIFICATION_BELOW: [u8; 4] = [2, 0, 1, 2];
-
-const CONTROLLER_BELOW: [u8; 4] = [2, 0, 1, 2];
+use rules::{Fault, Kind};
 
 // Fewer than 4 bytes, or the length is not the bytes that follow it.
 fn is_wrong_length(b: &[u8]) -> bool
@@ -36,26 +22,11 @@ fn is_wrong_length(b: &[u8]) -> bool
     said + 2 != b.len()
 }
 
-// The kind is another one than these two bytes.
-fn is_not(b: &[u8], kind: &[u8; 2]) -> bool
-    requires { 4 ≤ length b.now }
-    ensures { result ≡ not (same (kind_in b.now) (get_or kind.now 0 0 ∷ get_or kind.now 1 0 ∷ [])) }
-{
-    if b[2] != kind[0] {
-        return true;
-    }
-    b[3] != kind[1]
-}
-
 fn is_other_kind(b: &[u8], kind: Kind) -> bool
     requires { 4 ≤ length b.now }
     ensures { result ≡ not (same (kind_in b.now) (layout_of kind).kind) }
 {
-    match kind {
-        Kind::Context => is_not(b, &CONTEXT),
-        Kind::Specification => is_not(b, &SPECIFICATION),
-        Kind::Controller => is_not(b, &CONTROLLER),
-    }
+    [b[2], b[3]] != layout_of(kind).kind
 }
 
 // Counts cut short, or a broken last row.
@@ -63,11 +34,11 @@ fn is_cut(b: &[u8], kind: Kind) -> bool
     ensures { result ≡ (ltb (length b.now) (head_size (layout_of kind))
         || not (eqb ((length b.now - head_size (layout_of kind)) % row_size (layout_of kind)) 0)) }
 {
-    let shape = shape_of(kind);
-    if b.len() < shape.head {
+    let layout = layout_of(kind);
+    if b.len() < layout.head_size {
         return true;
     }
-    (b.len() - shape.head) % shape.row != 0
+    (b.len() - layout.head_size) % layout.row_size != 0
 }
 
 // Each of the first numbers is at least 1 and at most its limit.
@@ -75,15 +46,13 @@ fn is_within(counts: [u32; 6], limits: &[u16]) -> bool
     requires { length limits.now ≤ 6 }
     ensures { result ≡ in_limits (take (length limits.now) counts) limits.now }
 {
-    let mut k = 0;
-    while k < limits.len() {
+    for k in 0..limits.len() {
         if counts[k] < 1 {
             return false;
         }
         if (limits[k] as u32) < counts[k] {
             return false;
         }
-        k += 1;
     }
     true
 }
@@ -92,11 +61,7 @@ fn is_within(counts: [u32; 6], limits: &[u16]) -> bool
 pub fn is_in_limits(counts: [u32; 6], kind: Kind) -> bool
     ensures { Limited kind counts result }
 {
-    match kind {
-        Kind::Context => is_within(counts, &CONTEXT_LIMITS),
-        Kind::Specification => is_within(counts, &SPECIFICATION_LIMITS),
-        Kind::Controller => is_within(counts, &CONTROLLER_LIMITS),
-    }
+    is_within(counts, layout_of(kind).limits)
 }
 
 // A count or the number of rows outside its limit.
@@ -106,8 +71,8 @@ fn is_outside(b: &[u8], kind: Kind) -> bool
 {
     let counts = counts_of(b, kind);
     if is_in_limits(counts, kind) {
-        let shape = shape_of(kind);
-        shape.rows < row_count(b, kind)
+        let layout = layout_of(kind);
+        layout.row_limit < row_count(b, kind)
     } else {
         true
     }
@@ -137,13 +102,11 @@ fn is_below(row: [u32; 6], counts: [u32; 6], places: &[u8]) -> bool
     requires { Places places.now }
     ensures { result ≡ fields_below counts (take (length places.now) row) places.now }
 {
-    let mut j = 0;
-    while j < places.len() {
+    for j in 0..places.len() {
         let k = places[j] as usize;
         if counts[k] <= row[j] {
             return false;
         }
-        j += 1;
     }
     true
 }
@@ -151,11 +114,7 @@ fn is_below(row: [u32; 6], counts: [u32; 6], places: &[u8]) -> bool
 fn has_codes_below(row: [u32; 6], counts: [u32; 6], kind: Kind) -> bool
     ensures { result ≡ fields_below counts (fields_of (layout_of kind) row) (layout_of kind).below }
 {
-    match kind {
-        Kind::Context => is_below(row, counts, &CONTEXT_BELOW),
-        Kind::Specification => is_below(row, counts, &SPECIFICATION_BELOW),
-        Kind::Controller => is_below(row, counts, &CONTROLLER_BELOW),
-    }
+    is_below(row, counts, layout_of(kind).below)
 }
 
 // The first n fields of two rows: the first that differ decide.
@@ -184,8 +143,8 @@ fn row_fault(kind: Kind, counts: [u32; 6], k: u32, before: [u32; 6], row: [u32; 
         if k == 0 {
             return Fault::Sound;
         }
-        let shape = shape_of(kind);
-        match order_of(row, before, shape.key) {
+        let layout = layout_of(kind);
+        match order_of(row, before, layout.key_size) {
             Order::Higher => Fault::Sound,
             Order::Equal => Fault::EqualKey(k),
             Order::Lower => Fault::LowerKey(k),

@@ -2,48 +2,68 @@
 ghost use Rattle.std.specs.Prelude.{◌≡◌, ◌<◌, get_or, []};
 ghost use Rattle.rules.specs.Layouts.{layout_of};
 ghost use Rattle.rules.specs.Records.{counts_in, row_count, rows_in};
-ghost use Rattle.records.specs.Inside.{Held, ShapeOf};
+ghost use Rattle.records.specs.Inside.{Held, LaidOut};
 
-use super::Shape;
 use super::numbers::numbers_at;
-use rules::Kind;
+use rules::{CONTEXT, CONTROLLER, Kind, SPECIFICATION, STATE_LIMIT};
 
-// Bytes of each count, and of each field of a row.
-const CONTEXT_COUNTS: [u8; 5] = [1, 1, 1, 1, 1];
+// The definition of this name as the code has it, with its sizes: the two bytes of the kind; the bytes of each count, and its limit; the bytes of each
+// field of a row, and the place of the count that it stays below; the fields of the key; the limit of the rows; the bytes before the rows and of a row.
+pub(crate) struct Layout {
+    pub kind: [u8; 2],
+    pub count_sizes: &'static [u8],
+    pub limits: &'static [u16],
+    pub field_sizes: &'static [u8],
+    pub below: &'static [u8],
+    pub key_size: usize,
+    pub row_limit: usize,
+    pub head_size: usize,
+    pub row_size: usize,
+}
 
-const SPECIFICATION_COUNTS: [u8; 3] = [1, 1, 1];
+static CONTEXT_LAYOUT: Layout = Layout {
+    kind: CONTEXT,
+    count_sizes: &[1, 1, 1, 1, 1],
+    limits: &[8, 8, 4, 4, 64],
+    field_sizes: &[1, 1, 1, 1, 1, 1],
+    below: &[4, 0, 3, 2, 1, 4],
+    key_size: 5,
+    row_limit: 4096,
+    head_size: 9,
+    row_size: 6,
+};
 
-const CONTROLLER_COUNTS: [u8; 3] = [1, 1, 2];
+static SPECIFICATION_LAYOUT: Layout = Layout {
+    kind: SPECIFICATION,
+    count_sizes: &[1, 1, 1],
+    limits: &[8, 8, 64],
+    field_sizes: &[1, 1, 1, 1],
+    below: &[2, 0, 1, 2],
+    key_size: 3,
+    row_limit: 1024,
+    head_size: 7,
+    row_size: 4,
+};
 
-const CONTEXT_FIELDS: [u8; 6] = [1, 1, 1, 1, 1, 1];
+static CONTROLLER_LAYOUT: Layout = Layout {
+    kind: CONTROLLER,
+    count_sizes: &[1, 1, 2],
+    limits: &[4, 4, STATE_LIMIT],
+    field_sizes: &[2, 1, 1, 2],
+    below: &[2, 0, 1, 2],
+    key_size: 3,
+    row_limit: 8192,
+    head_size: 8,
+    row_size: 6,
+};
 
-const SPECIFICATION_FIELDS: [u8; 4] = [1, 1, 1, 1];
-
-const CONTROLLER_FIELDS: [u8; 4] = [2, 1, 1, 2];
-
-// The sizes and limits of a kind.
-pub(crate) fn shape_of(kind: Kind) -> Shape
-    ensures { ShapeOf (layout_of kind) result }
+pub(crate) fn layout_of(kind: Kind) -> &'static Layout
+    ensures { LaidOut (layout_of kind) result.now }
 {
     match kind {
-        Kind::Context => Shape {
-            head: 9,
-            row: 6,
-            key: 5,
-            rows: 4096,
-        },
-        Kind::Specification => Shape {
-            head: 7,
-            row: 4,
-            key: 3,
-            rows: 1024,
-        },
-        Kind::Controller => Shape {
-            head: 8,
-            row: 6,
-            key: 3,
-            rows: 8192,
-        },
+        Kind::Context => &CONTEXT_LAYOUT,
+        Kind::Specification => &SPECIFICATION_LAYOUT,
+        Kind::Controller => &CONTROLLER_LAYOUT,
     }
 }
 
@@ -51,22 +71,18 @@ pub(crate) fn shape_of(kind: Kind) -> Shape
 pub(crate) fn row_count(b: &[u8], kind: Kind) -> usize
     ensures { result ≡ row_count (layout_of kind) b.now }
 {
-    let shape = shape_of(kind);
-    if b.len() < shape.head {
+    let layout = layout_of(kind);
+    if b.len() < layout.head_size {
         return 0;
     }
-    (b.len() - shape.head) / shape.row
+    (b.len() - layout.head_size) / layout.row_size
 }
 
 // The counts in their order; zeros after them.
 pub(crate) fn counts_of(b: &[u8], kind: Kind) -> [u32; 6]
     ensures { Held (counts_in (layout_of kind) b.now) result }
 {
-    match kind {
-        Kind::Context => numbers_at(b, 4, &CONTEXT_COUNTS),
-        Kind::Specification => numbers_at(b, 4, &SPECIFICATION_COUNTS),
-        Kind::Controller => numbers_at(b, 4, &CONTROLLER_COUNTS),
-    }
+    numbers_at(b, 4, layout_of(kind).count_sizes)
 }
 
 // The fields of row k; zeros after them.
@@ -74,11 +90,7 @@ pub(crate) fn row_of(b: &[u8], kind: Kind, k: usize) -> [u32; 6]
     requires { k < row_count (layout_of kind) b.now }
     ensures { Held (get_or (rows_in (layout_of kind) b.now) k []) result }
 {
-    let shape = shape_of(kind);
-    let at = shape.head + k * shape.row;
-    match kind {
-        Kind::Context => numbers_at(b, at, &CONTEXT_FIELDS),
-        Kind::Specification => numbers_at(b, at, &SPECIFICATION_FIELDS),
-        Kind::Controller => numbers_at(b, at, &CONTROLLER_FIELDS),
-    }
+    let layout = layout_of(kind);
+    let at = layout.head_size + k * layout.row_size;
+    numbers_at(b, at, layout.field_sizes)
 }

@@ -5,7 +5,7 @@ ghost use Rattle.rules.specs.Records.{row_count, rows_in};
 ghost use Rattle.rules.specs.Tables.{has_key, row_state};
 ghost use Rattle.rules.specs.ContextRows.{first_row, ContextRowRead, StateRowsFound, RowFound};
 
-use super::layouts::{row_count, row_of};
+use super::layouts::{layout_of, row_count, row_of};
 use super::numbers::number_at;
 use pairs::CtxState;
 use rules::{ContextRow, Kind, StateRows};
@@ -33,7 +33,8 @@ fn state_of(b: &[u8], k: usize) -> usize
     requires { k < row_count context_layout b.now }
     ensures { result ≡ row_state (get_or (rows_in context_layout b.now) k []) }
 {
-    number_at(b, 9 + k * 6, 1) as usize
+    let layout = layout_of(Kind::Context);
+    number_at(b, layout.head_size + k * layout.row_size, 1) as usize
 }
 
 // The first row from row `from` on whose state is `a` or above; where there is none, the number of rows, or `from` where that is beyond them.
@@ -41,14 +42,12 @@ fn first_row(b: &[u8], a: usize, from: usize) -> usize
     ensures { result ≡ first_row (rows_in context_layout b.now) a from }
 {
     let n = row_count(b, Kind::Context);
-    let mut k = from;
-    while k < n {
+    for k in from..n {
         if a <= state_of(b, k) {
             return k;
         }
-        k += 1;
     }
-    k
+    n.max(from)
 }
 
 // The rows of a state, from row `from` on.
@@ -67,19 +66,7 @@ pub fn state_rows(b: &[u8], state: CtxState, from: usize) -> StateRows
 fn has_key(row: [u32; 6], a: u32, i: u32, v: u32, u: u32, o: u32) -> bool
     ensures { result ≡ has_key a i v u o row }
 {
-    if row[0] != a {
-        return false;
-    }
-    if row[1] != i {
-        return false;
-    }
-    if row[2] != v {
-        return false;
-    }
-    if row[3] != u {
-        return false;
-    }
-    row[4] == o
+    [row[0], row[1], row[2], row[3], row[4]] == [a, i, v, u, o]
 }
 
 // The number of the row with this key; the number of rows where there is none.
@@ -88,12 +75,10 @@ pub fn row_number(b: &[u8], state: CtxState, i: u32, v: u32, u: u32, o: u32) -> 
 {
     let a = state.0;
     let n = row_count(b, Kind::Context);
-    let mut k = 0;
-    while k < n {
+    for k in 0..n {
         if has_key(row_of(b, Kind::Context, k), a, i, v, u, o) {
             return k;
         }
-        k += 1;
     }
     n
 }

@@ -6,7 +6,7 @@ ghost use Rattle.records.specs.Inside.{Sizes, Held};
 fn byte_at(b: &[u8], at: usize) -> u32
     ensures { (result ≡ get_or b.now at 0) × (result < 256) }
 {
-    if at < b.len() { b[at] as u32 } else { 0 }
+    b.get(at).map_or(0, |x| u32::from(*x))
 }
 
 // The number of one or two bytes at a place.
@@ -30,12 +30,10 @@ pub(crate) fn numbers_at(b: &[u8], at: usize, sizes: &[u8]) -> [u32; 6]
 {
     let mut read = [0u32; 6];
     let mut place = at;
-    let mut j = 0;
-    while j < sizes.len() {
+    for j in 0..sizes.len() {
         let size = sizes[j] as usize;
         read[j] = number_at(b, place, size);
         place += size;
-        j += 1;
     }
     read
 }

@@ -17,12 +17,7 @@ use rules::{ABSENT, Kind, NEXT_NUMBERS};
 fn blank(table: &mut [u16])
     ensures { table.new ≡ replicate (length table.old) absent }
 {
-    let n = table.len();
-    let mut p = 0;
-    while p < n {
-        table[p] = ABSENT;
-        p += 1;
-    }
+    table.fill(ABSENT);
 }
 
 // The step of a row. A place beyond the table, which no legal record has, is left out.
@@ -47,10 +42,8 @@ fn put_steps(b: &[u8], kind: Kind, m: u32, n: u32, table: &mut [u16])
     ensures { table.new ≡ foldl (with_row m n) table.old (rows_in (layout_of kind) b.now) }
 {
     let rows = row_count(b, kind);
-    let mut k = 0;
-    while k < rows {
+    for k in 0..rows {
         put_step(table, row_of(b, kind, k), m, n);
-        k += 1;
     }
 }
 
@@ -79,16 +72,8 @@ pub(crate) fn fill_table(
 pub fn zero_after(next: &mut [u16], size: usize)
     ensures { NextZeroed next.old size next.new }
 {
-    if next.len() < NEXT_NUMBERS {
-        return;
-    }
-    if NEXT_NUMBERS < size {
-        return;
-    }
-    let mut p = size;
-    while p < NEXT_NUMBERS {
-        next[p] = 0;
-        p += 1;
+    if NEXT_NUMBERS <= next.len() && size <= NEXT_NUMBERS {
+        next[size..NEXT_NUMBERS].fill(0);
     }
 }
 

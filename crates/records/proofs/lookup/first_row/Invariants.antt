@@ -1,4 +1,3 @@
-use Prim.Native.Nat.{◌-◌}
 use Rattle.rules.specs.Layouts.{context_layout}
 use Rattle.rules.specs.Records.{rows_in}
 use Rattle.records.proofs.LookupLaws.{Passed}
@@ -6,6 +5,3 @@ use Rattle.records.proofs.lookup.first_row.Given as goal
 
 abbrev pub invariant-loop-k : goal.invariant-loop-k
 invariant-loop-k l = Passed (rows_in context_layout l.b) l.a l.from l.n l.k
-
-abbrev pub decreases-loop-k : goal.decreases-loop-k
-decreases-loop-k l = l.n - l.k

@@ -1,4 +1,3 @@
-use Prim.Native.Nat.{◌-◌}
 use Rattle.rules.specs.Layouts.{layout_of}
 use Rattle.rules.specs.Records.{rows_in}
 use Rattle.records.proofs.TableLaws.{Entered}
@@ -6,6 +5,3 @@ use Rattle.records.proofs.tables.put_steps.Given as goal
 
 abbrev pub invariant-loop-k : goal.invariant-loop-k
 invariant-loop-k l = Entered l.m l.n (rows_in (layout_of l.kind) l.b) l.rows l.initial.table l.table l.k
-
-abbrev pub decreases-loop-k : goal.decreases-loop-k
-decreases-loop-k l = l.rows - l.k
