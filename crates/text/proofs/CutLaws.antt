@@ -1,14 +1,14 @@
--- Where the first record of the bytes ends: what the three returns of `record_end` say, and that it ends within the bytes.
+-- Where the first record of the bytes ends: what the two returns of `record_end` say, and that it ends within the bytes.
 -- Assumes nothing.
 use Rattle.std.specs.Prelude.{if◌then◌else◌}
-use mathlib.Core.Path.{◌≡◌, refl, sym, ◌∙◌}
+use mathlib.Core.Path.{◌≡◌, refl}
 use mathlib.Core.Bool.{Bool, true, false, ◌||◌}
 use mathlib.Core.List.{List}
-use Prim.Native.Nat.{ℕ, ◌+◌, ◌*◌, ◌≤◌, ◌<◌}
+use Prim.Native.Nat.{ℕ, ◌+◌, ◌*◌, ◌≤◌, ◌<◌, min}
 use native.Mathlib.Omega.{arith}
 use lib.Dec.{ltb}
 use lib.ListN.{length, get_or}
-use borrow.Author.Tests.{lt-ltb, le-ltb, ltb-false}
+use borrow.Author.Tests.{lt-ltb, le-ltb, ltb-true, ltb-false}
 use Rattle.rules.specs.Records.{length_in}
 use Rattle.records.proofs.NumberLaws.{little_two}
 use Rattle.text.specs.Inputs.{record_end}
@@ -22,15 +22,15 @@ module _ (b : List ℕ) where
   said : get_or b 0 0 + get_or b 1 0 * 256 + 2 ≡ length_in b + 2
   said = rw (little_two b) (omega arith)
 
-  -- "if that is too far"
-  pub too_far : 2 ≤ length b → length b < get_or b 0 0 + get_or b 1 0 * 256 + 2 → length b ≡ record_end b
+  -- "where its length says", or all bytes "if that is too far"
+  pub told_end : 2 ≤ length b → min (get_or b 0 0 + get_or b 1 0 * 256 + 2) (length b) ≡ record_end b
   unfolding record_end
-  too_far h k = rw (le-ltb (length b) 2 h, lt-ltb (length b) (length_in b + 2) (omega (arith, said)))
-
-  -- "where its length says"
-  pub told_end : 2 ≤ length b → get_or b 0 0 + get_or b 1 0 * 256 + 2 ≤ length b → get_or b 0 0 + get_or b 1 0 * 256 + 2 ≡ record_end b
-  unfolding record_end
-  told_end h k = said ∙ sym (rw (le-ltb (length b) 2 h, le-ltb (length b) (length_in b + 2) (omega (arith, said))))
+  told_end h = rw (le-ltb (length b) 2 h) (go (ltb (length b) (length_in b + 2)) refl)
+    where
+      go : (far : Bool) → ltb (length b) (length_in b + 2) ≡ far
+          → min (get_or b 0 0 + get_or b 1 0 * 256 + 2) (length b) ≡ (if far then length b else length_in b + 2)
+      go true e = omega (arith, said, ltb-true (length b) (length_in b + 2) e)
+      go false e = omega (arith, said, ltb-false (length b) (length_in b + 2) e)
 
   pub end_within : record_end b ≤ length b
   unfolding record_end

@@ -2,8 +2,8 @@ pub mod Inputs
 pub mod Digits
 pub mod AppendLaws
 pub mod LengthLaws
-pub mod ByteLaws
 pub mod NumberLaws
+pub mod ReadingLaws
 pub mod LineLaws
 pub mod StepLaws
 pub mod AnswerLaws

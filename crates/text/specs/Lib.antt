@@ -1,5 +1,6 @@
 pub mod Inputs
 pub mod Lines
 pub mod Programs
+pub mod Reading
 pub mod Inside
 pub mod Skids

@@ -5,12 +5,9 @@ ghost use Rattle.text.specs.Inputs.{RecordEnd};
 pub fn record_end(b: &[u8]) -> usize
     ensures { RecordEnd b.now result }
 {
-    if b.len() < 2 {
+    let [low, high, ..] = b else {
         return b.len();
-    }
-    let end = b[0] as usize + b[1] as usize * 256 + 2;
-    if b.len() < end {
-        return b.len();
-    }
-    end
+    };
+    let end = u16::from_le_bytes([*low, *high]) as usize + 2;
+    end.min(b.len())
 }

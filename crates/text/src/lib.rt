@@ -5,5 +5,6 @@ pub mod cutting;
 pub mod fitting;
 mod lines;
 mod numbers;
+pub mod reading;
 pub mod solving;
 mod steps;

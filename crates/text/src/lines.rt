@@ -22,16 +22,13 @@ const FITS: [u8; 12] = *b"fits states ";
 const BLANK: [u8; 1] = *b" ";
 
 // Bytes at a place of the buffer. The place behind them.
-fn put_bytes(out: &mut [u8], at: usize, bytes: &[u8]) -> usize
+pub(crate) fn put_bytes(out: &mut [u8], at: usize, bytes: &[u8]) -> usize
     requires { at + length bytes.now ≤ length out.old }
     ensures { Appends at bytes.now out.old result out.new }
 {
-    let mut i = 0;
-    while i < bytes.len() {
-        out[at + i] = bytes[i];
-        i += 1;
-    }
-    at + i
+    let end = at + bytes.len();
+    out[at..end].copy_from_slice(bytes);
+    end
 }
 
 // A word and a number behind it.

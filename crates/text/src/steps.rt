@@ -32,10 +32,8 @@ fn put_steps(out: &mut [u8], at: usize, next: &[u16], size: usize, u: usize, v: 
     ensures { Appends at (step_lines u v 0 (take size next.now)) out.old result out.new }
 {
     let mut end = at;
-    let mut p = 0;
-    while p < size {
+    for p in 0..size {
         end = put_place(out, end, p, u, v, next[p]);
-        p += 1;
     }
     end
 }
