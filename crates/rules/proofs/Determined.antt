@@ -7,7 +7,6 @@ use Prim.Native.Nat.{ℕ}
 use Rattle.pairs.specs.declared.CtxState.{CtxState}
 use Rattle.pairs.proofs.Determined.{determined}
 use Rattle.rules.specs.declared.Reply.{Reply}
-use Rattle.rules.specs.declared.Reading.{Reading}
 use Rattle.rules.specs.declared.Kind.{Kind}
 use Rattle.rules.specs.declared.Counts.{Counts}
 use Rattle.rules.specs.declared.ContextRow.{ContextRow}
@@ -18,7 +17,7 @@ use Rattle.rules.specs.Faults.{Limited}
 use Rattle.rules.specs.Tables.{SpecificationFilled}
 use Rattle.rules.specs.ContextRows.{ContextRowRead, StateRowsFound, RowFound, RowsIndexed}
 use Rattle.rules.specs.Replies.{Succeeded, RefusedAt, Refused}
-use Rattle.rules.specs.Reading.{ContextRead, SpecificationRead, ControllerRead}
+use Rattle.rules.specs.Reading.{Reading, RecordRead, ContextRead, SpecificationRead, ControllerRead}
 use Rattle.rules.specs.Writing.{ControllerWritten}
 
 pub succeeded_determined : (states rounds : ℕ) (r s : Reply) → Succeeded states rounds r → Succeeded states rounds s → r ≡ s
@@ -29,6 +28,9 @@ refused_at_determined number table row r s = determined
 
 pub refused_determined : (number table : ℕ) (r s : Reply) → Refused number table r → Refused number table s → r ≡ s
 refused_determined number table r s = determined
+
+pub record_determined : (kind : Kind) (b : List ℕ) (r s : Reading) → RecordRead kind b r → RecordRead kind b s → r ≡ s
+record_determined kind b r s = determined
 
 pub context_determined : (b : List ℕ) (r s : Reading) → ContextRead b r → ContextRead b s → r ≡ s
 context_determined b r s = determined

@@ -5,7 +5,7 @@ use mathlib.Core.List.{List}
 use Prim.Native.Nat.{ℕ, zero, suc, ◌<◌}
 use native.Mathlib.Omega.{arith}
 use lib.ListN.{get_or}
-use Rattle.rules.specs.declared.Fault.TheVariants.{Sound}
+use Rattle.std.specs.Prelude.{Ok}
 use Rattle.rules.specs.Limits.{state_limit}
 use Rattle.rules.specs.Layouts.{context_layout, specification_layout, controller_layout}
 use Rattle.rules.specs.Records.{counts_in, rows_in}
@@ -24,7 +24,7 @@ key_fields r r' y (suc (suc (suc zero))) h = sym y.same_u
 key_fields r r' y (suc (suc (suc (suc zero)))) h = sym y.same_o
 key_fields r r' y (suc (suc (suc (suc (suc j))))) h = absurd (omega arith)
 
-pub legal_skid : (cb sb : List ℕ) → fault context_layout cb ≡ Sound → fault specification_layout sb ≡ Sound → Legal (skid_of cb sb)
+pub legal_skid : (cb sb : List ℕ) → fault context_layout cb ≡ Ok tt → fault specification_layout sb ≡ Ok tt → Legal (skid_of cb sb)
 unfolding skid_of specification_table context_layout specification_layout
 legal_skid cb sb ec es = record {
   context_start = (count_within context_layout cb ec 4 (omega arith)).0;
@@ -43,7 +43,7 @@ legal_skid cb sb ec es = record {
       low (omega arith) (λ r m. field_below specification_layout sb es r m 3 (omega arith));
 }
 
-pub read_controller_lem : (tb : List ℕ) → fault controller_layout tb ≡ Sound → NextTable (get_or (counts_in controller_layout tb) 2 0) (controller_table tb)
+pub read_controller_lem : (tb : List ℕ) → fault controller_layout tb ≡ Ok tt → NextTable (get_or (counts_in controller_layout tb) 2 0) (controller_table tb)
 unfolding controller_table controller_layout state_limit
 read_controller_lem tb e =
     let (low, high) = count_within controller_layout tb e 2 (omega arith) in

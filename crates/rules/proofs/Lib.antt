@@ -1,4 +1,5 @@
 pub mod ByPlace
+pub mod Replied
 pub mod ReadsFine
 pub mod Keys
 pub mod Sound

@@ -14,7 +14,7 @@ use lib.ListN.{length, set, replicate, length-append}
 use lib.Seq.{append_snoc, set_at}
 use borrow.Author.Tests.{eqb-true, eqb-false, lt-ltb}
 use Rattle.pairs.specs.Scans.{all_with, same, less}
-use Rattle.rules.specs.declared.Fault.TheVariants.{Sound}
+use Rattle.std.specs.Prelude.{Ok}
 use Rattle.rules.specs.Limits.{absent}
 use Rattle.rules.specs.Layouts.{controller_layout}
 use Rattle.rules.specs.Faults.{row_fault, rows_fault}
@@ -102,13 +102,13 @@ module _ (m n states : ℕ) (hm : 0 < m) (hn : 0 < n) where
   above_key : (p : ℕ) → Above (suc p) (place_key m n p)
   above_key p q h = let r = key_rises p q h in (less_not_same (place_key m n p) (place_key m n q) r, less_not_less (place_key m n p) (place_key m n q) r)
 
-  row_sound : (k p t : ℕ) (before : List ℕ) → p < states * (m * n) → t < states → Above p before → row_fault controller_layout (m ∷ n ∷ states ∷ []) k before (place_row m n p t) ≡ Sound
+  row_sound : (k p t : ℕ) (before : List ℕ) → p < states * (m * n) → t < states → Above p before → row_fault controller_layout (m ∷ n ∷ states ∷ []) k before (place_row m n p t) ≡ Ok tt
   unfolding row_fault controller_layout all_with
   row_sound k p t before hp ht above =
       let (new, up) = above p (omega arith) in
       rw (lt-ltb (p / (m * n)) states ((div-lt_iff_lt-mul (mul-pos hm hn)).1 hp), lt-ltb (p / n % m) m (mod-lt (p / n) hm), lt-ltb (p % n) n (mod-lt p hn), lt-ltb t states ht, new, up)
 
-  rows_sound : (k p : ℕ) (before ts : List ℕ) → p + length ts ≤ states * (m * n) → StatesIn states ts → Above p before → rows_fault controller_layout (m ∷ n ∷ states ∷ []) k before (listing m n p ts) ≡ Sound
+  rows_sound : (k p : ℕ) (before ts : List ℕ) → p + length ts ≤ states * (m * n) → StatesIn states ts → Above p before → rows_fault controller_layout (m ∷ n ∷ states ∷ []) k before (listing m n p ts) ≡ Ok tt
   unfolding listing rows_fault controller_layout
   rows_sound k p before [] few each above = refl
   rows_sound k p before (t ∷ ts) few each above = ⊎_elim
@@ -116,7 +116,7 @@ module _ (m n states : ℕ) (hm : 0 < m) (hn : 0 < n) where
       (λ h. rw (h.1, row_sound k p t before (omega arith) (present states t ts each h.0) above) (rows_sound (suc k) (suc p) (place_key m n p) ts (omega arith) (λ t m. each t (Memᴰ.tail m)) (above_key p)))
       (listing_step m n p t ts)
 
-  pub listing_sound : (places : List ℕ) → length places ≤ states * (m * n) → StatesIn states places → rows_fault controller_layout (m ∷ n ∷ states ∷ []) 0 [] (listing m n 0 places) ≡ Sound
+  pub listing_sound : (places : List ℕ) → length places ≤ states * (m * n) → StatesIn states places → rows_fault controller_layout (m ∷ n ∷ states ∷ []) 0 [] (listing m n 0 places) ≡ Ok tt
   unfolding all_with less
   listing_sound places few each = rows_sound 0 0 [] places (omega arith) each (λ q h. (refl, refl))
 

@@ -1,6 +1,6 @@
 -- Chains of refusals: where the whole does not refuse, no part does, and each test passed; the number of the whole is that of a part.
 -- Assumes nothing.
-use Rattle.std.specs.Prelude.{if◌then◌else◌}
+use Rattle.std.specs.Prelude.{Ok, Err, if◌then◌else◌}
 use mathlib.Core.Path.{◌≡◌, refl, sym, ap, ◌∙◌}
 use mathlib.Core.Bool.{Bool, true, false, not, true≢false}
 use mathlib.Core.List.{List}
@@ -9,10 +9,10 @@ use native.Mathlib.Omega.{arith}
 use lib.Dec.{eqb}
 use Rattle.rules.specs.declared.Reply.{Reply}
 use Rattle.rules.specs.declared.Fault.{Fault}
-use Rattle.rules.specs.declared.Fault.TheVariants.{Sound, Length, Kind, Cut, Limit, Code, EqualKey, LowerKey}
+use Rattle.rules.specs.declared.Fault.TheVariants.{Length, Kind, Cut, Limit, Code, EqualKey, LowerKey}
 use Rattle.rules.specs.Layouts.{Layout}
-use Rattle.rules.specs.Faults.{fault_number, fault_row, is_sound, fault}
-use Rattle.rules.specs.Replies.{fine, refusal, refuses, unless, ◌or_else◌, fault_reply, record_refusal}
+use Rattle.rules.specs.Faults.{fault_number, Finding, fault}
+use Rattle.rules.specs.Replies.{refuses, unless, ◌or_else◌, fault_reply, record_refusal}
 
 -- where neither of two refuses
 pub or_else_fine : (a b : Reply) → refuses (a or_else b) ≡ false → (refuses a ≡ false) × (refuses b ≡ false)
@@ -44,7 +44,6 @@ module _ (n : ℕ) where
   unless_most false number table h = h
 
 fault_most : (f : Fault) → fault_number f ≤ 7
-fault_most Sound = omega arith
 fault_most Length = omega arith
 fault_most Kind = omega arith
 fault_most Cut = omega arith
@@ -55,8 +54,8 @@ fault_most (LowerKey row) = omega arith
 
 pub record_most : (table : ℕ) (l : Layout) (b : List ℕ) → (record_refusal table l b).number ≤ 7
 unfolding record_refusal fault_reply
-record_most table l b = go (is_sound (fault l b))
+record_most table l b = go (fault l b)
   where
-    go : (c : Bool) → (if c then fine else refusal (fault_number (fault l b)) table (fault_row (fault l b)) 0).number ≤ 7
-    go true = omega arith
-    go false = fault_most (fault l b)
+    go : (f : Finding) → (fault_reply table f).number ≤ 7
+    go (Ok _) = omega arith
+    go (Err f) = fault_most f

@@ -11,7 +11,7 @@ use native.Mathlib.Omega.{arith}
 use lib.Dec.{T, eqb, eqb→eq}
 use lib.ListN.{length, get_or}
 use mir.Facts.{and_yes}
-use Rattle.rules.specs.declared.Fault.TheVariants.{Sound}
+use Rattle.std.specs.Prelude.{Ok}
 use Rattle.rules.specs.Limits.{state_limit, absent}
 use Rattle.rules.specs.Layouts.{Layout, context_layout, specification_layout, controller_layout}
 use Rattle.rules.specs.Records.{counts_in, rows_in}
@@ -39,7 +39,7 @@ six (a ∷ []) e = absurd (omega arith)
 six (a ∷ b ∷ r) e = let rest = four r (omega arith) in ap (λ r. a ∷ b ∷ r) rest
 
 -- the context goes from a on i, v, u and o to a' exactly if its record has the row
-pub context_row_lem : (cb sb : List ℕ) → fault context_layout cb ≡ Sound → fault specification_layout sb ≡ Sound → (a i v u o a' : ℕ)
+pub context_row_lem : (cb sb : List ℕ) → fault context_layout cb ≡ Ok tt → fault specification_layout sb ≡ Ok tt → (a i v u o a' : ℕ)
     → context_next (skid_of cb sb).context a i v u o ≡ some a' ↔ Memᴰ (a ∷ i ∷ v ∷ u ∷ o ∷ a' ∷ []) (rows_in context_layout cb)
 unfolding skid_of context_layout
 context_row_lem cb sb ec es a i v u o a' = (
@@ -49,7 +49,7 @@ context_row_lem cb sb ec es a i v u o a' = (
 )
 
 -- specification and controller: rows (state, x, y, next), whose counts are x's, y's and the states
-module _ (l : Layout) (fields : length l.field_sizes ≡ 4) (below : l.below ≡ 2 ∷ 0 ∷ 1 ∷ 2 ∷ []) (key : l.key_size ≡ 3) (b : List ℕ) (e : fault l b ≡ Sound) where
+module _ (l : Layout) (fields : length l.field_sizes ≡ 4) (below : l.below ≡ 2 ∷ 0 ∷ 1 ∷ 2 ∷ []) (key : l.key_size ≡ 3) (b : List ℕ) (e : fault l b ≡ Ok tt) where
   abbrev m : ℕ
   m = get_or (counts_in l b) 0 0
 
@@ -111,7 +111,7 @@ unfolding letters_agree
 same_letters cb tb agree = agreeing _ _ _ _ agree
 
 -- where I and O agree: the specification goes from c by i and o to c' exactly if its record has the row
-pub specification_row_lem : (cb sb : List ℕ) → fault specification_layout sb ≡ Sound → outside_agree cb sb ≡ true
+pub specification_row_lem : (cb sb : List ℕ) → fault specification_layout sb ≡ Ok tt → outside_agree cb sb ≡ true
     → (c i o c' : ℕ) → i < (skid_of cb sb).n_i → o < (skid_of cb sb).n_o
     → spec_next (skid_of cb sb) c i o ≡ some c' ↔ Memᴰ (c ∷ i ∷ o ∷ c' ∷ []) (rows_in specification_layout sb)
 unfolding skid_of specification_table spec_next specification_layout
@@ -121,7 +121,7 @@ specification_row_lem cb sb es agree c i o c' hi ho =
     table_row specification_layout refl refl refl sb es (omega arith) (get_or (counts_in context_layout cb) 0 0) (get_or (counts_in context_layout cb) 1 0) ei eo c i o c' hi ho
 
 -- and each of its rows is one of the context's i and o
-pub specification_codes : (cb sb : List ℕ) → fault specification_layout sb ≡ Sound → outside_agree cb sb ≡ true → (r : List ℕ) → Memᴰ r (rows_in specification_layout sb)
+pub specification_codes : (cb sb : List ℕ) → fault specification_layout sb ≡ Ok tt → outside_agree cb sb ≡ true → (r : List ℕ) → Memᴰ r (rows_in specification_layout sb)
     → (get_or r 1 0 < (skid_of cb sb).n_i) × (get_or r 2 0 < (skid_of cb sb).n_o) × (r ≡ get_or r 0 0 ∷ get_or r 1 0 ∷ get_or r 2 0 ∷ get_or r 3 0 ∷ [])
 unfolding skid_of specification_layout
 specification_codes cb sb es agree =
@@ -129,7 +129,7 @@ specification_codes cb sb es agree =
     row_codes specification_layout refl refl refl sb es (get_or (counts_in context_layout cb) 0 0) (get_or (counts_in context_layout cb) 1 0) ei eo
 
 -- where U and V agree: the controller goes from s by u and v to s' exactly if its record has the row
-pub controller_row_lem : (cb sb tb : List ℕ) → fault controller_layout tb ≡ Sound → letters_agree cb tb ≡ true
+pub controller_row_lem : (cb sb tb : List ℕ) → fault controller_layout tb ≡ Ok tt → letters_agree cb tb ≡ true
     → (s u v s' : ℕ) → u < (skid_of cb sb).n_u → v < (skid_of cb sb).n_v
     → there (next_at (skid_of cb sb) (controller_table tb) s (letter_at (skid_of cb sb) u v)) ≡ some s' ↔ Memᴰ (s ∷ u ∷ v ∷ s' ∷ []) (rows_in controller_layout tb)
 unfolding skid_of controller_table controller_layout state_limit
@@ -139,7 +139,7 @@ controller_row_lem cb sb tb et agree s u v s' hu hv =
     table_row controller_layout refl refl refl tb et (omega arith) (get_or (counts_in context_layout cb) 2 0) (get_or (counts_in context_layout cb) 3 0) eu ev s u v s' hu hv
 
 -- and each of its rows is one of the context's u and v
-pub controller_codes : (cb sb tb : List ℕ) → fault controller_layout tb ≡ Sound → letters_agree cb tb ≡ true → (r : List ℕ) → Memᴰ r (rows_in controller_layout tb)
+pub controller_codes : (cb sb tb : List ℕ) → fault controller_layout tb ≡ Ok tt → letters_agree cb tb ≡ true → (r : List ℕ) → Memᴰ r (rows_in controller_layout tb)
     → (get_or r 1 0 < (skid_of cb sb).n_u) × (get_or r 2 0 < (skid_of cb sb).n_v) × (r ≡ get_or r 0 0 ∷ get_or r 1 0 ∷ get_or r 2 0 ∷ get_or r 3 0 ∷ [])
 unfolding skid_of controller_layout
 controller_codes cb sb tb et agree =

@@ -10,8 +10,7 @@ use lib.ListN.{length, get_or, take, drop, replicate, length-append}
 use lib.Seq.{take_at}
 use Rattle.pairs.specs.Lent.{filled}
 use Rattle.rules.specs.declared.Reply.{Reply}
-use Rattle.rules.specs.declared.Reading.{Reading}
-use Rattle.rules.specs.declared.Fault.TheVariants.{Sound}
+use Rattle.std.specs.Prelude.{Ok}
 use Rattle.rules.specs.Limits.{absent, state_limit, next_numbers}
 use Rattle.rules.specs.Layouts.{controller_layout}
 use Rattle.rules.specs.Bytes.{numbers}
@@ -21,11 +20,12 @@ use Rattle.rules.specs.Faults.{in_limits, fault}
 use Rattle.rules.specs.Replies.{success, refuses, record_refusal}
 use Rattle.rules.specs.NextTables.{listing}
 use Rattle.rules.specs.Tables.{controller_table}
-use Rattle.rules.specs.Reading.{read_unless, controller_refusal, read_controller, ControllerRead}
+use Rattle.rules.specs.Reading.{Reading, reading_reply, reading_counts, controller_refusal, ControllerRead}
 use Rattle.rules.specs.Writing.{places, controller_bytes, write_controller, ControllerWritten}
 use Rattle.rules.specs.RoundTrips.{WrittenBack, Bytes}
 use Rattle.rules.proofs.Sound.{row_length, count_within, keys_rise, sound_head}
 use Rattle.rules.proofs.NotRefused.{or_else_fine}
+use Rattle.rules.proofs.Replied.{controller_counted, controller_next}
 use Rattle.rules.proofs.ReadsFine.{read_fine, no_fault}
 use Rattle.rules.proofs.NextTables.{table_length}
 use Rattle.rules.proofs.Legal.{read_controller_lem}
@@ -35,7 +35,7 @@ use Rattle.rules.proofs.TableListing.{listing_table}
 use Rattle.rules.proofs.Writes.{no_bad, writes}
 
 -- a controller record without fault
-module _ (b : List ℕ) (e : fault controller_layout b ≡ Sound) (each : Bytes b) where
+module _ (b : List ℕ) (e : fault controller_layout b ≡ Ok tt) (each : Bytes b) where
   abbrev m : ℕ
   m = get_or (counts_in controller_layout b) 0 0
 
@@ -81,29 +81,29 @@ module _ (b : List ℕ) (e : fault controller_layout b ≡ Sound) (each : Bytes 
 
 -- what was read with 0
 record ReadFine (b lent : List ℕ) (r : Reading) (lent' : List ℕ) : Type 0 where
-  faultless : fault controller_layout b ≡ Sound
-  own_counts : r.counts ≡ controller_counts b
+  faultless : fault controller_layout b ≡ Ok tt
+  own_counts : reading_counts r ≡ controller_counts b
   rest : List ℕ
   own_table : lent' ≡ controller_table b ++ rest
 
-fine_read : (b lent : List ℕ) (r : Reading) (lent' : List ℕ) → ControllerRead b lent r lent' → r.reply.number ≡ 0 → ReadFine b lent r lent'
-unfolding read_controller controller_refusal record_refusal read_unless filled
+fine_read : (b lent : List ℕ) (r : Reading) (lent' : List ℕ) → ControllerRead b lent r lent' → (reading_reply r).number ≡ 0 → ReadFine b lent r lent'
+unfolding controller_refusal record_refusal filled
 fine_read b lent r lent' was h =
-    let calm : refuses (controller_refusal b lent) ≡ false = read_fine (controller_refusal b lent) (controller_counts b) (ap (λ r. r.reply.number) (sym was.reading_is) ∙ h) in
+    let calm : refuses (controller_refusal b lent) ≡ false = read_fine b lent (ap (λ r. (reading_reply r).number) (sym was.reading_is) ∙ h) in
     record {
       faultless = no_fault 3 (fault controller_layout b) (or_else_fine (record_refusal 3 controller_layout b) _ calm).0;
-      own_counts = ap (λ r. r.counts) was.reading_is ∙ rw calm;
+      own_counts = ap reading_counts was.reading_is ∙ controller_counted b lent ∙ rw calm;
       rest = replicate (next_numbers - length (controller_table b)) 0 ++ drop next_numbers lent;
-      own_table = was.next_is ∙ rw calm (append_assoc (controller_table b) _ _);
+      own_table = was.next_is ∙ controller_next b lent ∙ rw calm (append_assoc (controller_table b) _ _);
     }
 
-pub read_then_write : (b lent : List ℕ) (r : Reading) (lent' : List ℕ) → Bytes b → ControllerRead b lent r lent' → r.reply.number ≡ 0
+pub read_then_write : (b lent : List ℕ) (r : Reading) (lent' : List ℕ) → Bytes b → ControllerRead b lent r lent' → (reading_reply r).number ≡ 0
     → (buffer : List ℕ) (start : ℕ) (reply : Reply) (buffer' : List ℕ) → start + length b ≤ length buffer
-    → ControllerWritten r.counts.u r.counts.v r.counts.states lent' buffer start reply buffer'
-    → WrittenBack b buffer start r.counts.states reply buffer'
+    → ControllerWritten (reading_counts r).u (reading_counts r).v (reading_counts r).states lent' buffer start reply buffer'
+    → WrittenBack b buffer start (reading_counts r).states reply buffer'
 read_then_write b lent r lent' each was h buffer start reply buffer' room put =
     let known = fine_read b lent r lent' was h in
-    let gives : write_controller r.counts.u r.counts.v r.counts.states lent' buffer start
-    ≡ record { reply = success r.counts.states 0; buffer = take start buffer ++ b ++ drop (start + length b) buffer } =
+    let gives : write_controller (reading_counts r).u (reading_counts r).v (reading_counts r).states lent' buffer start
+    ≡ record { reply = success (reading_counts r).states 0; buffer = take start buffer ++ b ++ drop (start + length b) buffer } =
     rw (known.own_counts, known.own_table) (writes_back b known.faultless each known.rest buffer start room) in
     record { reply_is = put.reply_is ∙ ap (λ o. o.reply) gives; buffer_is = put.buffer_is ∙ ap (λ o. o.buffer) gives }

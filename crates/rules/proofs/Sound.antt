@@ -1,6 +1,6 @@
 -- What a record without fault holds: counts from 1 to their limits, each field below its count, keys that rise, no key twice.
 -- Assumes nothing.
-use Rattle.std.specs.Prelude.{if◌then◌else◌}
+use Rattle.std.specs.Prelude.{Ok, Err, if◌then◌else◌}
 use mathlib.Core.Path.{◌≡◌, refl, sym, ap, subst, ◌∙◌}
 use mathlib.Core.Bool.{Bool, true, false, not, ◌&&◌, ◌||◌, true≢false, false≢true}
 use mathlib.Core.List.Memᴰ
@@ -15,33 +15,27 @@ use mir.Facts.{and_yes}
 use Rattle.pairs.specs.Scans.{same, less, total}
 use Rattle.pairs.proofs.Scans.{with_at, with_equal}
 use Rattle.rules.specs.declared.Fault.{Fault}
-use Rattle.rules.specs.declared.Fault.TheVariants.{Sound, Length, Kind, Cut, Limit, Code, EqualKey, LowerKey}
+use Rattle.rules.specs.declared.Fault.TheVariants.{Length, Kind, Cut, Limit, Code, EqualKey, LowerKey}
 use Rattle.rules.specs.Layouts.{Layout}
 use Rattle.rules.specs.Records.{rows_of, length_in, kind_in, head_size, row_size, counts_in, row_count, rows_in}
-use Rattle.rules.specs.Faults.{is_sound, in_limits, fields_below, key_of, head_fault, row_fault, rows_fault, fault}
+use Rattle.rules.specs.Faults.{Finding, is_sound, in_limits, fields_below, key_of, head_fault, row_fault, rows_fault, fault}
 use Rattle.rules.proofs.ByPlace.{length_numbers}
 use Rattle.rules.proofs.Keys.{less_trans, less_other, KeysRise, rise_one}
 
-pub sound : (f : Fault) → is_sound f ≡ true → f ≡ Sound
-sound Sound e = refl
-sound Length e = absurd (false≢true e)
-sound Kind e = absurd (false≢true e)
-sound Cut e = absurd (false≢true e)
-sound Limit e = absurd (false≢true e)
-sound (Code row) e = absurd (false≢true e)
-sound (EqualKey row) e = absurd (false≢true e)
-sound (LowerKey row) e = absurd (false≢true e)
+pub sound : (f : Finding) → is_sound f ≡ true → f ≡ Ok tt
+sound (Ok tt) e = refl
+sound (Err f) e = absurd (false≢true e)
 
 -- one test of a chain that finds nothing
-passed : (c : Bool) (f rest : Fault) → is_sound f ≡ false → (if c then f else rest) ≡ Sound → (c ≡ false) × (rest ≡ Sound)
-passed true f rest n e = absurd (true≢false (sym (ap is_sound e) ∙ n))
-passed false f rest n e = (refl, e)
+passed : (c : Bool) (f : Fault) (rest : Finding) → (if c then Err f else rest) ≡ Ok tt → (c ≡ false) × (rest ≡ Ok tt)
+passed true f rest e = absurd (false≢true (ap is_sound e))
+passed false f rest e = (refl, e)
 
 -- of two findings the first decides
-both : (f rest : Fault) → (if is_sound f then rest else f) ≡ Sound → (f ≡ Sound) × (rest ≡ Sound)
+both : (f rest : Finding) → (if is_sound f then rest else f) ≡ Ok tt → (f ≡ Ok tt) × (rest ≡ Ok tt)
 both f rest = go (is_sound f) refl
   where
-    go : (b : Bool) → is_sound f ≡ b → (if b then rest else f) ≡ Sound → (f ≡ Sound) × (rest ≡ Sound)
+    go : (b : Bool) → is_sound f ≡ b → (if b then rest else f) ≡ Ok tt → (f ≡ Ok tt) × (rest ≡ Ok tt)
     go true p e = (sound f p, e)
     go false p e = absurd (true≢false (sym (ap is_sound e) ∙ p))
 
@@ -67,12 +61,12 @@ module _ (l : Layout) where
     new : same (key_of l r) before ≡ false
     up : less (key_of l r) before ≡ false
 
-  row_sound : (counts : List ℕ) (k : ℕ) (before r : List ℕ) → row_fault l counts k before r ≡ Sound → RowSound counts before r
+  row_sound : (counts : List ℕ) (k : ℕ) (before r : List ℕ) → row_fault l counts k before r ≡ Ok tt → RowSound counts before r
   unfolding row_fault
   row_sound counts k before r e =
-      let (p₁, e₁) = passed (not (fields_below counts r l.below)) (Code k) _ refl e in
-      let (p₂, e₂) = passed (same (key_of l r) before) (EqualKey k) _ refl e₁ in
-      let (p₃, e₃) = passed (less (key_of l r) before) (LowerKey k) Sound refl e₂ in
+      let (p₁, e₁) = passed (not (fields_below counts r l.below)) (Code k) _ e in
+      let (p₂, e₂) = passed (same (key_of l r) before) (EqualKey k) _ e₁ in
+      let (p₃, e₃) = passed (less (key_of l r) before) (LowerKey k) _ e₂ in
       record { fields = subst T (sym (not-false (fields_below counts r l.below) p₁)) tt; new = p₂; up = p₃ }
 
   -- all rows are
@@ -80,7 +74,7 @@ module _ (l : Layout) where
   Rising counts before [] = Unit {0}
   Rising counts before (r ∷ rs) = RowSound counts before r × Rising counts (key_of l r) rs
 
-  rows_rising : (counts : List ℕ) (k : ℕ) (before : List ℕ) (rows : List (List ℕ)) → rows_fault l counts k before rows ≡ Sound → Rising counts before rows
+  rows_rising : (counts : List ℕ) (k : ℕ) (before : List ℕ) (rows : List (List ℕ)) → rows_fault l counts k before rows ≡ Ok tt → Rising counts before rows
   unfolding rows_fault
   rows_rising counts k before [] e = tt
   rows_rising counts k before (r ∷ rs) e =
@@ -125,13 +119,13 @@ module _ (l : Layout) where
     pub within : in_limits (counts_in l b) l.limits ≡ true
     pub few_rows : row_count l b ≤ l.row_limit
 
-  pub head_sound : (b : List ℕ) → head_fault l b ≡ Sound → HeadSound b
+  pub head_sound : (b : List ℕ) → head_fault l b ≡ Ok tt → HeadSound b
   unfolding head_fault
   head_sound b e =
-      let (p₁, e₁) = passed (ltb (length b) 4 || not (eqb (length_in b + 2) (length b))) Length _ refl e in
-      let (p₂, e₂) = passed (not (same (kind_in b) l.kind)) Kind _ refl e₁ in
-      let (p₃, e₃) = passed (ltb (length b) (head_size l) || not (eqb ((length b - head_size l) % row_size l) 0)) Cut _ refl e₂ in
-      let (p₄, e₄) = passed (not (in_limits (counts_in l b) l.limits) || ltb l.row_limit (row_count l b)) Limit Sound refl e₃ in
+      let (p₁, e₁) = passed (ltb (length b) 4 || not (eqb (length_in b + 2) (length b))) Length _ e in
+      let (p₂, e₂) = passed (not (same (kind_in b) l.kind)) Kind _ e₁ in
+      let (p₃, e₃) = passed (ltb (length b) (head_size l) || not (eqb ((length b - head_size l) % row_size l) 0)) Cut _ e₂ in
+      let (p₄, e₄) = passed (not (in_limits (counts_in l b) l.limits) || ltb l.row_limit (row_count l b)) Limit _ e₃ in
       let (q₁, w) = or_false (ltb (length b) 4) (not (eqb (length_in b + 2) (length b))) p₁ in
       let (q₃, z) = or_false (ltb (length b) (head_size l)) (not (eqb ((length b - head_size l) % row_size l) 0)) p₃ in
       let (q₄, f) = or_false (not (in_limits (counts_in l b) l.limits)) (ltb l.row_limit (row_count l b)) p₄ in
@@ -144,8 +138,8 @@ module _ (l : Layout) where
         few_rows = ltb-false l.row_limit (row_count l b) f;
       }
 
-module _ (l : Layout) (b : List ℕ) (e : fault l b ≡ Sound) where
-  parts : (head_fault l b ≡ Sound) × (rows_fault l (counts_in l b) 0 [] (rows_in l b) ≡ Sound)
+module _ (l : Layout) (b : List ℕ) (e : fault l b ≡ Ok tt) where
+  parts : (head_fault l b ≡ Ok tt) × (rows_fault l (counts_in l b) 0 [] (rows_in l b) ≡ Ok tt)
   unfolding fault
   parts = both (head_fault l b) (rows_fault l (counts_in l b) 0 [] (rows_in l b)) e
 

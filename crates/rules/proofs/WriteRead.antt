@@ -6,9 +6,8 @@ use Prim.Native.Nat.{ℕ, ◌≤◌}
 use lib.ListN.{length, take, drop}
 use Rattle.pairs.specs.Lent.{filled}
 use Rattle.rules.specs.declared.Reply.{Reply}
-use Rattle.rules.specs.declared.Reading.{Reading}
 use Rattle.rules.specs.Limits.{next_numbers}
-use Rattle.rules.specs.Reading.{read_controller, ControllerRead}
+use Rattle.rules.specs.Reading.{Reading, read_controller, ControllerRead}
 use Rattle.rules.specs.Writing.{places, controller_bytes, ControllerWritten}
 use Rattle.rules.specs.RoundTrips.{ReadBack}
 use Rattle.rules.proofs.ReadsFine.{read_reading, read_next}

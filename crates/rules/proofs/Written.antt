@@ -16,7 +16,7 @@ use mir.Facts.{and_yes, or_yes}
 use Rattle.pairs.specs.Scans.{first_place, total}
 use Rattle.pairs.proofs.Lists.{place_none}
 use Rattle.rules.specs.declared.Reply.{Reply}
-use Rattle.rules.specs.declared.Fault.TheVariants.{Sound}
+use Rattle.std.specs.Prelude.{Ok}
 use Rattle.rules.specs.Limits.{absent, state_limit}
 use Rattle.rules.specs.Layouts.{controller_layout}
 use Rattle.rules.specs.Records.{counts_in}
@@ -115,7 +115,7 @@ module _ (n_u n_v states : ℕ) (next buffer : List ℕ) (start : ℕ) (fine_wri
         bytes_fit = omega (arith, few_rows);
       }
 
-  pub write_sound : fault controller_layout (controller_bytes n_u n_v states next) ≡ Sound
+  pub write_sound : fault controller_layout (controller_bytes n_u n_v states next) ≡ Ok tt
   unfolding controller_bytes controller_layout
   write_sound = record_sound controller_layout counts rows writable pass.in_limits_lem few_rows
       (listing_sound n_u n_v states u_in.0 v_in.0 table (omega (arith, places_length)) pass.states_only)

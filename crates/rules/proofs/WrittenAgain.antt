@@ -8,7 +8,7 @@ use native.Mathlib.Omega.{arith}
 use lib.ListN.{length, take, drop, length-drop, take-append-drop}
 use lib.Seq.{take-add, take_all, drop-drop}
 use Rattle.pairs.specs.Scans.{total}
-use Rattle.rules.specs.declared.Fault.TheVariants.{Sound}
+use Rattle.std.specs.Prelude.{Ok}
 use Rattle.rules.specs.Layouts.{Layout}
 use Rattle.rules.specs.Bytes.{little, bytes_of, numbers, written}
 use Rattle.rules.specs.Records.{rows_of, length_in, head_size, row_size, counts_in, row_count, rows_in, record_of}
@@ -49,7 +49,7 @@ written_rows ws (suc n) b each h =
     ∙ sym (take-add (total ws) (n * total ws) b) ∙ sym (ap (λ n. take n b) e)
 
 -- a record without fault, of any kind
-module _ (l : Layout) (b : List ℕ) (e : fault l b ≡ Sound) (each : Bytes b) where
+module _ (l : Layout) (b : List ℕ) (e : fault l b ≡ Ok tt) (each : Bytes b) where
   rest_size : row_count l b * row_size l ≡ length b - head_size l
   rest_size = let z = (sound_head l b e).whole_rows in omega (arith, div-add-mod' (length b - head_size l) (row_size l))
 

@@ -13,7 +13,7 @@ use borrow.Author.Tests.{le-ltb, eq-eqb}
 use Rattle.pairs.specs.Scans.{total}
 use Rattle.pairs.proofs.Lists.{length_flat_map}
 use Rattle.pairs.proofs.Scans.{with_self}
-use Rattle.rules.specs.declared.Fault.TheVariants.{Sound}
+use Rattle.std.specs.Prelude.{Ok}
 use Rattle.rules.specs.Layouts.{Layout}
 use Rattle.rules.specs.Bytes.{bytes_of, numbers, written}
 use Rattle.rules.specs.Records.{length_in, kind_in, head_size, row_size, counts_in, row_count, rows_in, record_of}
@@ -85,7 +85,7 @@ module _ (l : Layout) (counts : List ℕ) (rows : List (List ℕ)) (w : Writable
   unfolding table
   record_rows = rw (record_row_count, after_counts) (rows_written l.field_sizes rows w.rows_fit)
 
-  head_sound : in_limits counts l.limits ≡ true → length rows ≤ l.row_limit → head_fault l (record_of l counts rows) ≡ Sound
+  head_sound : in_limits counts l.limits ≡ true → length rows ≤ l.row_limit → head_fault l (record_of l counts rows) ≡ Ok tt
   unfolding head_fault
   head_sound limits few = rw (
     le-ltb (length (record_of l counts rows)) 4 (omega (arith, record_size)),
@@ -101,6 +101,6 @@ module _ (l : Layout) (counts : List ℕ) (rows : List (List ℕ)) (w : Writable
     le-ltb l.row_limit (length rows) few,
   )
 
-  pub record_sound : in_limits counts l.limits ≡ true → length rows ≤ l.row_limit → rows_fault l counts 0 [] rows ≡ Sound → fault l (record_of l counts rows) ≡ Sound
+  pub record_sound : in_limits counts l.limits ≡ true → length rows ≤ l.row_limit → rows_fault l counts 0 [] rows ≡ Ok tt → fault l (record_of l counts rows) ≡ Ok tt
   unfolding fault
   record_sound limits few sound = rw (head_sound limits few, record_counts, record_rows) sound

@@ -2,7 +2,9 @@
 // A reader of the product's promises reads the specs of this crate. Its only code makes replies.
 #![tactic(auto)]
 
-ghost use Rattle.rules.specs.Replies.{Succeeded, RefusedAt, Refused};
+ghost use Rattle.std.specs.Prelude.{◌≡◌};
+ghost use Rattle.rules.specs.Faults.{fault_number, fault_row};
+ghost use Rattle.rules.specs.Replies.{Succeeded, RefusedAt, Refused, refusal, refusal_reply};
 
 use pairs::CtxState;
 
@@ -34,18 +36,17 @@ pub struct Reply {
     pub rounds: u32,
 }
 
-// The three kinds of record.
-#[derive(Clone, Copy)]
+// The three kinds of record, by their numbers in a reply.
+#[derive(Clone, Copy, PartialEq, Eq)]
 pub enum Kind {
-    Context,
-    Specification,
-    Controller,
+    Context = 1,
+    Specification = 2,
+    Controller = 3,
 }
 
-// What reading a record finds: nothing wrong, or the first refusal of 1 to 7, with the row for 5 to 7.
-#[derive(Clone, Copy)]
+// What is wrong with a record: the first refusal of 1 to 7, with the row for 5 to 7.
+#[derive(Clone, Copy, PartialEq, Eq)]
 pub enum Fault {
-    Sound,
     Length,
     Kind,
     Cut,
@@ -55,7 +56,48 @@ pub enum Fault {
     LowerKey(u32),
 }
 
-// The counts of a record that was read; 0 where its kind has no such count, and all 0 on a refusal.
+// What is refused before anything is decided: a record, by 1 to 7; codes that differ, 8, of a record; a product of states that is too large, 9; a lent
+// buffer that is too short, 10; an unknown mode, 13.
+#[derive(Clone, Copy, PartialEq, Eq)]
+pub enum Refusal {
+    Record(Kind, Fault),
+    Codes(Kind),
+    Pairs,
+    Room,
+    Mode,
+}
+
+// The reply of a refusal.
+impl From<Refusal> for Reply {
+    ghost from_gives = { λ r reply. reply ≡ refusal_reply r };
+
+    fn from(r: Refusal) -> Reply {
+        match r {
+            Refusal::Record(kind, fault) => fault_reply(kind as u32, fault),
+            Refusal::Codes(kind) => refused(8, kind as u32),
+            Refusal::Pairs => refused(9, 0),
+            Refusal::Room => refused(10, 0),
+            Refusal::Mode => refused(13, 0),
+        }
+    }
+}
+
+// A fault of a record, as a reply.
+fn fault_reply(of: u32, fault: Fault) -> Reply
+    ensures { result ≡ refusal (fault_number fault) of (fault_row fault) 0 }
+{
+    match fault {
+        Fault::Length => refused(1, of),
+        Fault::Kind => refused(2, of),
+        Fault::Cut => refused(3, of),
+        Fault::Limit => refused(4, of),
+        Fault::Code(row) => refused_at(5, of, row),
+        Fault::EqualKey(row) => refused_at(6, of, row),
+        Fault::LowerKey(row) => refused_at(7, of, row),
+    }
+}
+
+// The counts of a record that was read; 0 where its kind has no such count.
 #[derive(Clone, Copy)]
 pub struct Counts {
     pub i: u32,
@@ -64,13 +106,6 @@ pub struct Counts {
     pub v: u32,
     pub states: u32,
     pub rows: usize,
-}
-
-// A reply, and beside it the counts of the record.
-#[derive(Clone, Copy)]
-pub struct Reading {
-    pub reply: Reply,
-    pub counts: Counts,
 }
 
 // A row of a context.
