@@ -1,5 +1,6 @@
 -- What the tests of a record's head need: refusals 1 to 4.
 -- Assumes nothing.
+use Rattle.std.specs.Prelude.{Ok, Err}
 use mathlib.Core.Path.{◌≡◌, refl, sym, ◌∙◌}
 use mathlib.Core.Bool.{Bool, true, false, not, ◌||◌}
 use mathlib.Core.List.{List, [], ◌∷◌}
@@ -14,16 +15,16 @@ use Rattle.pairs.specs.Scans.{same}
 use Rattle.rules.specs.declared.Kind.{Kind}
 use Rattle.records.specs.declared.layouts.Layout as code
 use Rattle.rules.specs.declared.Fault.{Fault}
-use Rattle.rules.specs.declared.Fault.TheVariants.{Sound, Length, Cut, Limit}
+use Rattle.rules.specs.declared.Fault.TheVariants.{Length, Cut, Limit}
 use Rattle.rules.specs.declared.Fault.TheVariants as found
 use Rattle.rules.specs.Layouts.{Layout, layout_of}
 use Rattle.rules.specs.Records.{length_in, kind_in, head_size, row_size, counts_in, row_count, rows_in}
-use Rattle.rules.specs.Faults.{is_sound, in_limits, head_fault, rows_fault, fault}
+use Rattle.rules.specs.Faults.{Finding, in_limits, head_fault, rows_fault, fault}
 use Rattle.records.specs.Inside.{Held, LaidOut}
 use Rattle.rules.proofs.ByPlace.{length_numbers}
 use Rattle.records.proofs.NumberLaws.{pointwise_same, front_held}
 use Rattle.records.proofs.KindLaws.{laid}
-use Rattle.rules.proofs.Sound.{sound, or_false, head_sound}
+use Rattle.rules.proofs.Sound.{or_false, head_sound}
 
 -- 1
 pub too_short : (n : ℕ) (rest : Bool) → n < 4 → true ≡ (ltb n 4 || rest)
@@ -82,7 +83,7 @@ module _ (kind : Kind) (b : List ℕ) where
 
   -- the four in their order
   module _ (short : Bool) (short_is : short ≡ (ltb (length b) 4 || not (eqb (length_in b + 2) (length b)))) where
-    pub length_found : short ≡ true → Length ≡ head_fault l b
+    pub length_found : short ≡ true → Err Length ≡ head_fault l b
     unfolding head_fault
     length_found e = sym (rw (← short_is, e))
 
@@ -91,36 +92,36 @@ module _ (kind : Kind) (b : List ℕ) where
       four_bytes = ltb-false (length b) 4 (or_false (ltb (length b) 4) (not (eqb (length_in b + 2) (length b))) (sym short_is ∙ right)).0
 
       module _ (other : Bool) (other_is : other ≡ not (same (kind_in b) l.kind)) where
-        pub kind_found : other ≡ true → found.Kind ≡ head_fault l b
+        pub kind_found : other ≡ true → Err found.Kind ≡ head_fault l b
         unfolding head_fault
         kind_found e = sym (rw (← short_is, right, ← other_is, e))
 
         module _ (own : other ≡ false) (broken : Bool)
             (broken_is : broken ≡ (ltb (length b) (head_size l) || not (eqb ((length b - head_size l) % row_size l) 0))) where
-          pub cut_found : broken ≡ true → Cut ≡ head_fault l b
+          pub cut_found : broken ≡ true → Err Cut ≡ head_fault l b
           unfolding head_fault
           cut_found e = sym (rw (← short_is, right, ← other_is, own, ← broken_is, e))
 
           module _ (whole : broken ≡ false) (over : Bool) (over_is : over ≡ outside) where
-            pub limit_found : over ≡ true → Limit ≡ head_fault l b
+            pub limit_found : over ≡ true → Err Limit ≡ head_fault l b
             unfolding head_fault
             limit_found e = sym (rw (← short_is, right, ← other_is, own, ← broken_is, whole, ← over_is, e))
 
-            pub nothing_found : over ≡ false → Sound ≡ head_fault l b
+            pub nothing_found : over ≡ false → Ok tt ≡ head_fault l b
             unfolding head_fault
             nothing_found e = sym (rw (← short_is, right, ← other_is, own, ← broken_is, whole, ← over_is, e))
 
 -- ---- head, then rows
-module _ (kind : Kind) (b : List ℕ) (f : Fault) (flag : Bool) (head : f ≡ head_fault (layout_of kind) b) (flag_is : flag ≡ is_sound f) where
-  pub few_rows : flag ≡ true → row_count (layout_of kind) b < 65536
+module _ (kind : Kind) (b : List ℕ) where
+  pub few_rows : Ok tt ≡ head_fault (layout_of kind) b → row_count (layout_of kind) b < 65536
   few_rows e =
-      let h = head_sound (layout_of kind) b (sym head ∙ sound f (sym flag_is ∙ e)) in
+      let h = head_sound (layout_of kind) b (sym e) in
       omega (arith, h.few_rows, (laid kind).rows_few)
 
-  pub head_decides : flag ≡ false → f ≡ fault (layout_of kind) b
+  pub head_decides : (x : Fault) → Err x ≡ head_fault (layout_of kind) b → Err x ≡ fault (layout_of kind) b
   unfolding fault
-  head_decides e = sym (rw (← head, ← flag_is, e))
+  head_decides x e = rw (← e)
 
-  pub rows_follow : flag ≡ true → (r : Fault) → r ≡ rows_fault (layout_of kind) (counts_in (layout_of kind) b) 0 [] (rows_in (layout_of kind) b) → r ≡ fault (layout_of kind) b
+  pub rows_follow : Ok tt ≡ head_fault (layout_of kind) b → (r : Finding) → r ≡ rows_fault (layout_of kind) (counts_in (layout_of kind) b) 0 [] (rows_in (layout_of kind) b) → r ≡ fault (layout_of kind) b
   unfolding fault
-  rows_follow e r q = q ∙ sym (rw (← head, ← flag_is, e))
+  rows_follow e r q = q ∙ sym (rw (← e))

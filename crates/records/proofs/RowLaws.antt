@@ -1,32 +1,31 @@
 -- What the tests of a row need: refusals 5 to 7.
 -- Assumes nothing.
-use Rattle.std.specs.Prelude.{if◌then◌else◌}
+use Rattle.std.specs.Prelude.{Ok, Err, if◌then◌else◌}
+use Rattle.std.specs.Cmp.Lexicographic.{slice_cmp}
+use Rattle.std.specs.Ordering.{nat_cmp, is_eq, is_lt}
+use Rattle.std.proofs.lemmas.Cmp.{same_from_slice_cmp}
+use Rattle.std.proofs.lemmas.Bool.Decides.{nat_tests}
+use Rattle.std.specs.declared.cmp.Ordering.{Ordering}
+use Rattle.std.specs.declared.cmp.Ordering.TheVariants.{Less, Equal, Greater}
 use mathlib.Core.Path.{◌≡◌, refl, sym, ap, ◌∙◌}
 use mathlib.Core.Bool.{Bool, true, false}
 use mathlib.Core.List.{List, [], ◌∷◌}
 use Prim.Native.Nat.{ℕ, ◌+◌, ◌*◌, ◌^◌, ◌≤◌, ◌<◌}
-use native.Mathlib.Numerals.{add-one}
 use native.Mathlib.Omega.{arith}
 use lib.Dec.{ltb, ltb→lt}
-use lib.ListN.{length, get_or, take, drop, length-take, drop_of_length-le}
-use lib.Seq.{drop-cons, get_or-take, take-take}
+use lib.ListN.{length, get_or, take, drop, length-take}
+use lib.Seq.{get_or-take, take-take}
 use borrow.Author.Tests.{eq-eqb, ne_eqb, lt-ltb, le-ltb}
 use Rattle.pairs.specs.Scans.{all_with, same, less}
 use Rattle.pairs.proofs.Scans.{all_yes, with_step, with_done}
 use Rattle.pairs.proofs.Lists.{at_mem}
-use Rattle.rules.specs.declared.Fault.{Fault}
-use Rattle.rules.specs.declared.Fault.TheVariants.{Sound, Code, EqualKey, LowerKey}
+use Rattle.rules.specs.declared.Fault.TheVariants.{Code, EqualKey, LowerKey}
 use Rattle.rules.specs.declared.Kind.{Kind}
-use Rattle.records.specs.declared.Order.{Order}
-use Rattle.records.specs.declared.Order.TheVariants.{Higher, Equal, Lower}
 use Rattle.rules.specs.Layouts.{Layout, layout_of}
-use Rattle.rules.specs.Faults.{is_sound, fields_below, key_of, row_fault}
+use Rattle.rules.specs.Faults.{Finding, fields_below, key_of, row_fault}
 use Rattle.records.proofs.KindLaws.{Laid, laid}
 use Rattle.records.specs.declared.layouts.Layout as code
-use Rattle.records.specs.Inside.{LaidOut, Places, fields_of, key_before, order_of}
-
-pub sound_told : (f known : Fault) → f ≡ known → (r : Bool) → r ≡ is_sound known → r ≡ is_sound f
-sound_told f known is r e = e ∙ ap is_sound (sym is)
+use Rattle.records.specs.Inside.{LaidOut, Places, fields_of, key_before}
 
 -- 5: field by field
 module _ (places : List ℕ) (p : Places places) (j : ℕ) (more : j < length places) where
@@ -65,44 +64,13 @@ pub below_told : (kind : Kind) (s : code.Layout) → LaidOut (layout_of kind) s 
 below_told kind s known row counts r e = e ∙ rw (known.below_are, (laid kind).below_each)
 
 -- 6 and 7: the first fields that differ decide
-module _ (x y : ℕ) (xs ys : List ℕ) where
-  pub order_lower : x < y → order_of (x ∷ xs) (y ∷ ys) ≡ Lower
-  unfolding order_of all_with less
-  order_lower h = rw (ne_eqb x y (λ e. omega arith), lt-ltb x y h)
+same_told : (xs ys : List ℕ) (o : Ordering) → o ≡ slice_cmp nat_cmp xs ys → is_eq o ≡ same xs ys
+unfolding all_with
+same_told = same_from_slice_cmp nat_cmp is_eq same refl (λ _ _. refl) (λ _ _. refl) (λ x y xs ys o h. grind (arith, nat_tests))
 
-  pub order_higher : y < x → order_of (x ∷ xs) (y ∷ ys) ≡ Higher
-  unfolding order_of all_with less
-  order_higher h = rw (ne_eqb x y (λ e. omega arith), le-ltb x y (omega arith))
-
-  pub order_next : x ≡ y → order_of (x ∷ xs) (y ∷ ys) ≡ order_of xs ys
-  unfolding order_of all_with less
-  order_next e = rw (eq-eqb x y e, le-ltb x y (omega arith))
-
-module _ (row before : List ℕ) (n : ℕ) (few : n ≤ 6) (six : length row ≡ 6) (six_before : length before ≡ 6) (j : ℕ)
-    (so_far : order_of (drop j (take n row)) (drop j (take n before)) ≡ order_of (take n row) (take n before)) where
-  pub order_end : n ≤ j → Equal ≡ order_of (take n row) (take n before)
-  unfolding order_of all_with
-  order_end h =
-      let a : length (take n row) ≤ j = rw length-take (omega arith) in
-      let b : length (take n before) ≤ j = rw length-take (omega arith) in
-      sym (rw (drop_of_length-le (take n row) a, drop_of_length-le (take n before) b)) ∙ so_far
-
-  module _ (more : j < n) where
-    here : (l : List ℕ) → length l ≡ 6 → drop j (take n l) ≡ get_or l j 0 ∷ drop (j + 1) (take n l)
-    here l e = rw (add-one, drop-cons (take n l) j 0 (rw length-take (omega arith)), get_or-take n l j 0 more)
-
-    met : order_of (take n row) (take n before) ≡ order_of (get_or row j 0 ∷ drop (j + 1) (take n row)) (get_or before j 0 ∷ drop (j + 1) (take n before))
-    met = sym so_far ∙ rw (here row six, here before six_before)
-
-    pub found_lower : get_or row j 0 < get_or before j 0 → Lower ≡ order_of (take n row) (take n before)
-    found_lower h = sym (met ∙ order_lower (get_or row j 0) (get_or before j 0) _ _ h)
-
-    pub found_higher : get_or before j 0 < get_or row j 0 → Higher ≡ order_of (take n row) (take n before)
-    found_higher h = sym (met ∙ order_higher (get_or row j 0) (get_or before j 0) _ _ h)
-
-    pub found_equal : get_or before j 0 ≤ get_or row j 0 → get_or row j 0 ≤ get_or before j 0
-        → order_of (drop (j + 1) (take n row)) (drop (j + 1) (take n before)) ≡ order_of (take n row) (take n before)
-    found_equal h k = sym (met ∙ order_next (get_or row j 0) (get_or before j 0) _ _ (omega arith))
+less_told : (xs ys : List ℕ) (o : Ordering) → o ≡ slice_cmp nat_cmp xs ys → is_lt o ≡ less xs ys
+unfolding less
+less_told = same_from_slice_cmp nat_cmp is_lt less refl (λ _ _. refl) (λ _ _. refl) (λ x y xs ys o h. grind (arith, nat_tests))
 
 -- the key of a row in an array of six, and no key before it
 module _ (l : Layout) (d : Laid l) (row : List ℕ) where
@@ -115,47 +83,56 @@ no_number [] h = absurd (omega arith)
 no_number (x ∷ xs) h = (refl, refl)
 
 -- what an order says of row k
-abbrev by_order : ℕ → Order → Fault
-by_order k Higher = Sound
-by_order k Equal = EqualKey k
-by_order k Lower = LowerKey k
+abbrev by_order : ℕ → Ordering → Finding
+by_order k Greater = Ok tt
+by_order k Equal = Err (EqualKey k)
+by_order k Less = Err (LowerKey k)
+
+tests_decide : (k : ℕ) (o : Ordering) → (if is_eq o then Err (EqualKey k) else if is_lt o then Err (LowerKey k) else Ok tt) ≡ by_order k o
+tests_decide k Greater = refl
+tests_decide k Equal = refl
+tests_decide k Less = refl
 
 -- the three in their order
 module _ (kind : Kind) (counts : List ℕ) (k : ℕ) (before row : List ℕ) where
   abbrev l : Layout
   l = layout_of kind
 
-  abbrev decided : Fault
+  abbrev decided : Finding
   decided = row_fault l counts k (key_before l k before) (fields_of l row)
 
   module _ (flag : Bool) (tested : flag ≡ fields_below counts (fields_of l row) l.below) where
-    pub code_found : flag ≡ false → Code k ≡ decided
+    pub code_found : flag ≡ false → Err (Code k) ≡ decided
     unfolding row_fault
     code_found e = sym (rw (← tested, e))
 
     module _ (below : flag ≡ true) where
-      pub first_sound : length row ≡ 6 → k ≡ 0 → Sound ≡ decided
+      pub first_sound : length row ≡ 6 → k ≡ 0 → Ok tt ≡ decided
       unfolding row_fault
       first_sound six e =
           let some_key : 1 ≤ length (take l.key_size row) = rw length-take (omega (arith, (laid kind).key_some)) in
           let (no_same, no_less) = no_number (take l.key_size row) some_key in
           sym (rw (← tested, below, eq-eqb k 0 e, key_front l (laid kind) row, no_same, no_less))
 
-      module _ (later : k ≡ 0 → ⊥) (n : ℕ) (is_key : n ≡ l.key_size) (order : Order) (compared : order ≡ order_of (take n row) (take n before)) where
+      module _ (later : k ≡ 0 → ⊥) (n : ℕ) (is_key : n ≡ l.key_size) (order : Ordering) (compared : order ≡ slice_cmp nat_cmp (take n row) (take n before)) where
         ordered : decided ≡ by_order k order
-        unfolding row_fault order_of
-        ordered = go (same (take n row) (take n before)) refl (less (take n row) (take n before)) refl
-          where
-            go : (s : Bool) → same (take n row) (take n before) ≡ s → (t : Bool) → less (take n row) (take n before) ≡ t → decided ≡ by_order k order
-            go true p t q = rw (compared, ← tested, below, ne_eqb k 0 later, key_front l (laid kind) row, key_front l (laid kind) before, ← is_key, p)
-            go false p true q = rw (compared, ← tested, below, ne_eqb k 0 later, key_front l (laid kind) row, key_front l (laid kind) before, ← is_key, p, q)
-            go false p false q = rw (compared, ← tested, below, ne_eqb k 0 later, key_front l (laid kind) row, key_front l (laid kind) before, ← is_key, p, q)
+        unfolding row_fault
+        ordered = rw (
+          ← tested,
+          below,
+          ne_eqb k 0 later,
+          key_front l (laid kind) row,
+          key_front l (laid kind) before,
+          ← is_key,
+          ← same_told (take n row) (take n before) order compared,
+          ← less_told (take n row) (take n before) order compared,
+        ) (tests_decide k order)
 
-        pub higher_sound : order ≡ Higher → Sound ≡ decided
-        higher_sound e = sym (ordered ∙ ap (by_order k) e)
+        pub greater_sound : order ≡ Greater → Ok tt ≡ decided
+        greater_sound e = sym (ordered ∙ ap (by_order k) e)
 
-        pub equal_found : order ≡ Equal → EqualKey k ≡ decided
+        pub equal_found : order ≡ Equal → Err (EqualKey k) ≡ decided
         equal_found e = sym (ordered ∙ ap (by_order k) e)
 
-        pub lower_found : order ≡ Lower → LowerKey k ≡ decided
+        pub lower_found : order ≡ Less → Err (LowerKey k) ≡ decided
         lower_found e = sym (ordered ∙ ap (by_order k) e)

@@ -1,8 +1,7 @@
 -- What the scan of a record's rows needs: the fault of the rows that are left is that of all.
 -- Assumes nothing.
-use Rattle.std.specs.Prelude.{if◌then◌else◌}
+use Rattle.std.specs.Prelude.{Ok, Err, if◌then◌else◌}
 use mathlib.Core.Path.{◌≡◌, refl, sym, ◌∙◌}
-use mathlib.Core.Bool.{Bool, true, false}
 use mathlib.Core.List.{List, [], ◌∷◌}
 use Prim.Native.Nat.{ℕ, suc, ◌+◌, ◌≤◌, ◌<◌}
 use native.Mathlib.Numerals.{add-one}
@@ -13,11 +12,10 @@ use borrow.Author.Tests.{ne_eqb}
 use Rattle.pairs.specs.Scans.{all_with}
 use Rattle.pairs.proofs.Lists.{at_mem}
 use Rattle.rules.specs.declared.Fault.{Fault}
-use Rattle.rules.specs.declared.Fault.TheVariants.{Sound}
 use Rattle.rules.specs.declared.Kind.{Kind}
 use Rattle.rules.specs.Layouts.{Layout, layout_of}
 use Rattle.rules.specs.Records.{head_size, counts_in, row_count, rows_in}
-use Rattle.rules.specs.Faults.{is_sound, fields_below, key_of, row_fault, rows_fault}
+use Rattle.rules.specs.Faults.{Finding, is_sound, fields_below, key_of, row_fault, rows_fault}
 use Rattle.records.specs.Inside.{padded, Held, fields_of, key_before}
 use Rattle.records.proofs.NumberLaws.{front_held, at_held}
 use Rattle.rules.proofs.ByPlace.{rows_there}
@@ -47,7 +45,7 @@ module _ (kind : Kind) (b : List ℕ) where
   none_passed before = record { within = omega arith; left = refl }
 
   module _ (k : ℕ) (before : List ℕ) (passed : Passed k before) where
-    pub all_passed : (n : ℕ) → n ≡ row_count l b → n ≤ k → Sound ≡ rows_fault l (counts_in l b) 0 [] rows
+    pub all_passed : (n : ℕ) → n ≡ row_count l b → n ≤ k → Ok tt ≡ rows_fault l (counts_in l b) 0 [] rows
     unfolding rows_fault
     all_passed n e h =
         let over : length rows ≤ k = rw (rows_there l b) (omega arith) in
@@ -62,7 +60,7 @@ module _ (kind : Kind) (b : List ℕ) where
           let size : length (get_or rows k []) ≡ length l.field_sizes = rows_length l.field_sizes (row_count l b) (drop (head_size l) b) (get_or rows k []) (at_mem rows k [] inside) in
           rw (row_held.same_numbers, ← size) (front_held 6 (get_or rows k []))
 
-      module _ (f : Fault) (tested : f ≡ row_fault l counts k (key_before l k before) (fields_of l row)) where
+      module _ (f : Finding) (tested : f ≡ row_fault l counts k (key_before l k before) (fields_of l row)) where
         of_row : row_fault l (counts_in l b) k (key_before l k before) (get_or rows k []) ≡ f
         unfolding row_fault
         of_row = sym (tested ∙ rw (row_is, counts_held.same_numbers, fields_alike (padded 6 (counts_in l b)) (counts_in l b) (at_held 6 (counts_in l b)) (get_or rows k []) l.below))
@@ -71,12 +69,11 @@ module _ (kind : Kind) (b : List ℕ) where
         unfolding rows_fault
         met = sym passed.left ∙ rw (drop-cons rows k [] inside, of_row)
 
-        module _ (flag : Bool) (flag_is : flag ≡ is_sound f) where
-          pub fault_found : flag ≡ false → f ≡ rows_fault l (counts_in l b) 0 [] rows
-          fault_found e = sym (met ∙ rw (← flag_is, e))
+      pub fault_found : (x : Fault) → Err x ≡ row_fault l counts k (key_before l k before) (fields_of l row) → Err x ≡ rows_fault l (counts_in l b) 0 [] rows
+      fault_found x e = sym (met (Err x) e)
 
-          pub one_passed : flag ≡ true → Passed (k + 1) row
-          one_passed e = record {
-            within = omega arith;
-            left = sym (met ∙ rw (← flag_is, e, ne_eqb (k + 1) 0 (λ z. omega arith), row_is, add-one));
-          }
+      pub one_passed : Ok tt ≡ row_fault l counts k (key_before l k before) (fields_of l row) → Passed (k + 1) row
+      one_passed e = record {
+        within = omega arith;
+        left = sym (met (Ok tt) e ∙ rw (ne_eqb (k + 1) 0 (λ z. omega arith), row_is, add-one));
+      }

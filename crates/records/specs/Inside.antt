@@ -1,10 +1,8 @@
 -- What the private functions promise to each other. No promise to a caller names these.
 -- Assumes nothing.
 use Rattle.std.specs.Prelude.{◌≡◌, ℕ, ◌-◌, ◌≤◌, ◌<◌, ◌&&◌, List, [], ◌++◌, T, leb, ltb, eqb, length, get_or, take, replicate, if◌then◌else◌}
-use Rattle.pairs.specs.Scans.{all, same, less}
+use Rattle.pairs.specs.Scans.{all}
 use Rattle.pairs.specs.Lent.{leading}
-use Rattle.records.specs.declared.Order.{Order}
-use Rattle.records.specs.declared.Order.TheVariants.{Higher, Equal, Lower}
 use Rattle.records.specs.declared.layouts.Layout as code
 use Rattle.rules.specs.Layouts.{Layout}
 use Rattle.rules.specs.Records.{head_size, row_size}
@@ -59,10 +57,6 @@ fields_of l row = take (length l.field_sizes) row
 
 abbrev pub key_before : Layout → ℕ → List ℕ → List ℕ
 key_before l k before = if eqb k 0 then [] else key_of l (fields_of l before)
-
--- how a key stands to the one before it
-unfoldable pub order_of : List ℕ → List ℕ → Order
-order_of key before = if same key before then Equal else if less key before then Lower else Higher
 
 -- numbers at the front of a buffer that has room; a shorter one stays whole
 abbrev pub led_by : List ℕ → List ℕ → List ℕ

@@ -1,15 +1,15 @@
 // Refusals 1 to 7: what is wrong with a record.
-ghost use Rattle.std.specs.Prelude.{◌≡◌, [], ◌∷◌, not, ◌||◌, ◌+◌, ◌-◌, ◌%◌, ◌<◌, ◌≤◌, ltb, eqb, length, get_or, take};
+ghost use Rattle.std.specs.Prelude.{◌≡◌, [], not, ◌||◌, ◌+◌, ◌-◌, ◌%◌, ◌<◌, ◌≤◌, ltb, eqb, length, take};
 ghost use Rattle.pairs.specs.Scans.{same};
 ghost use Rattle.rules.specs.Layouts.{layout_of};
 ghost use Rattle.rules.specs.Records.{length_in, kind_in, head_size, row_size, counts_in, row_count, rows_in};
-ghost use Rattle.rules.specs.Faults.{is_sound, in_limits, Limited, fields_below, head_fault, row_fault, rows_fault, fault};
-ghost use Rattle.records.specs.Inside.{Places, fields_of, order_of, key_before};
+ghost use Rattle.rules.specs.Faults.{in_limits, Limited, fields_below, head_fault, row_fault, rows_fault, fault};
+ghost use Rattle.records.specs.Inside.{Places, fields_of, key_before};
 
-use super::Order;
 use super::layouts::{counts_of, layout_of, row_count, row_of};
 use super::numbers::number_at;
 use rules::{Fault, Kind};
+use std::cmp::Ordering;
 
 // Fewer than 4 bytes, or the length is not the bytes that follow it.
 fn is_wrong_length(b: &[u8]) -> bool
@@ -79,22 +79,22 @@ fn is_outside(b: &[u8], kind: Kind) -> bool
 }
 
 // Refusals 1 to 4, in their order.
-fn head_fault(b: &[u8], kind: Kind) -> Fault
+fn head_fault(b: &[u8], kind: Kind) -> Result<(), Fault>
     ensures { result ≡ head_fault (layout_of kind) b.now }
 {
     if is_wrong_length(b) {
-        return Fault::Length;
+        return Err(Fault::Length);
     }
     if is_other_kind(b, kind) {
-        return Fault::Kind;
+        return Err(Fault::Kind);
     }
     if is_cut(b, kind) {
-        return Fault::Cut;
+        return Err(Fault::Cut);
     }
     if is_outside(b, kind) {
-        return Fault::Limit;
+        return Err(Fault::Limit);
     }
-    Fault::Sound
+    Ok(())
 }
 
 // Each field is below the count whose place is given for it.
@@ -117,85 +117,50 @@ fn has_codes_below(row: [u32; 6], counts: [u32; 6], kind: Kind) -> bool
     is_below(row, counts, layout_of(kind).below)
 }
 
-// The first n fields of two rows: the first that differ decide.
-fn order_of(row: [u32; 6], before: [u32; 6], n: usize) -> Order
-    requires { n ≤ 6 }
-    ensures { result ≡ order_of (take n row) (take n before) }
-{
-    let mut j = 0;
-    while j < n {
-        if row[j] < before[j] {
-            return Order::Lower;
-        }
-        if before[j] < row[j] {
-            return Order::Higher;
-        }
-        j += 1;
-    }
-    Order::Equal
-}
-
 // Row k, after the row before it, which is not looked at where k is 0: refusals 5, 6 and 7, in their order.
-fn row_fault(kind: Kind, counts: [u32; 6], k: u32, before: [u32; 6], row: [u32; 6]) -> Fault
+fn row_fault(
+    kind: Kind,
+    counts: [u32; 6],
+    k: u32,
+    before: [u32; 6],
+    row: [u32; 6],
+) -> Result<(), Fault>
     ensures { result ≡ row_fault (layout_of kind) counts k (key_before (layout_of kind) k before) (fields_of (layout_of kind) row) }
 {
-    if has_codes_below(row, counts, kind) {
-        if k == 0 {
-            return Fault::Sound;
-        }
-        let layout = layout_of(kind);
-        match order_of(row, before, layout.key_size) {
-            Order::Higher => Fault::Sound,
-            Order::Equal => Fault::EqualKey(k),
-            Order::Lower => Fault::LowerKey(k),
-        }
-    } else {
-        Fault::Code(k)
+    if !has_codes_below(row, counts, kind) {
+        return Err(Fault::Code(k));
     }
-}
-
-// Nothing is wrong.
-fn is_sound(f: Fault) -> bool
-    ensures { result ≡ is_sound f }
-{
-    match f {
-        Fault::Sound => true,
-        Fault::Length => false,
-        Fault::Kind => false,
-        Fault::Cut => false,
-        Fault::Limit => false,
-        Fault::Code(_) => false,
-        Fault::EqualKey(_) => false,
-        Fault::LowerKey(_) => false,
+    if k == 0 {
+        return Ok(());
+    }
+    let n = layout_of(kind).key_size;
+    match row[..n].cmp(&before[..n]) {
+        Ordering::Greater => Ok(()),
+        Ordering::Equal => Err(Fault::EqualKey(k)),
+        Ordering::Less => Err(Fault::LowerKey(k)),
     }
 }
 
 // The first faulty row decides. Each row is read once.
-fn rows_fault(b: &[u8], kind: Kind) -> Fault
+fn rows_fault(b: &[u8], kind: Kind) -> Result<(), Fault>
     requires { row_count (layout_of kind) b.now < 65536 }
     ensures { result ≡ rows_fault (layout_of kind) (counts_in (layout_of kind) b.now) 0 [] (rows_in (layout_of kind) b.now) }
 {
     let counts = counts_of(b, kind);
     let n = row_count(b, kind);
     let mut before = [0u32; 6];
-    let mut k = 0;
-    while k < n {
+    for k in 0..n {
         let row = row_of(b, kind, k);
-        let f = row_fault(kind, counts, k as u32, before, row);
-        if is_sound(f) {
-            before = row;
-            k += 1;
-        } else {
-            return f;
-        }
+        row_fault(kind, counts, k as u32, before, row)?;
+        before = row;
     }
-    Fault::Sound
+    Ok(())
 }
 
 // What is wrong with a record.
-pub(crate) fn fault_of(b: &[u8], kind: Kind) -> Fault
+pub(crate) fn fault_of(b: &[u8], kind: Kind) -> Result<(), Fault>
     ensures { result ≡ fault (layout_of kind) b.now }
 {
-    let f = head_fault(b, kind);
-    if is_sound(f) { rows_fault(b, kind) } else { f }
+    head_fault(b, kind)?;
+    rows_fault(b, kind)
 }

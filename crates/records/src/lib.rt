@@ -7,11 +7,3 @@ pub mod faults; // refusals 1 to 7
 pub mod readers; // the three readers, and a record's counts
 pub mod lookup; // the rows of a context
 pub mod tables; // next tables
-
-// How a key stands to the one before it.
-#[derive(Clone, Copy)]
-pub enum Order {
-    Higher,
-    Equal,
-    Lower,
-}

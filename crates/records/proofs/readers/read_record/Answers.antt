@@ -1,8 +1,8 @@
 use Rattle.records.proofs.ReadLaws.{record_refused, record_read}
 use Rattle.records.proofs.readers.read_record.Goals as goal
 
-pub returns-then-found-ne0 : goal.returns-then-found-ne0
-returns-then-found-ne0 c = search record_refused
+pub returns-in-Ok : goal.returns-in-Ok
+returns-in-Ok c = record_read _ _ c.in-Ok.ensures _ c.record_counts.ensures
 
-pub returns : goal.returns
-returns c = search record_read
+pub returns-in-Err : goal.returns-in-Err
+returns-in-Err c = record_refused _ _ _ c.in-Err.ensures
