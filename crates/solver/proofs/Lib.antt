@@ -9,6 +9,7 @@ pub mod ByRowLaws
 pub mod ByPairLaws
 pub mod AfterLaws
 pub mod AnswerLaws
+pub mod BareLaws
 pub mod PassingLaws
 pub mod ClearedLaws
 pub mod TakeOutLaws
