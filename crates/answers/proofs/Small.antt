@@ -1,6 +1,6 @@
 -- What solving with reply 0 says of its sizes: the answer has at most 512 states, and the context was read without fault.
 -- Assumes nothing.
-use Rattle.std.specs.Prelude.{if◌then◌else◌}
+use Rattle.std.specs.Prelude.{if◌then◌else◌, Ok}
 use mathlib.Core.Path.{◌≡◌, refl, sym, ap, subst, ◌∙◌}
 use mathlib.Core.Bool.{Bool, true, false, not, true≢false}
 use mathlib.Core.Option.{Option, none, some}
@@ -10,7 +10,6 @@ use native.Mathlib.Omega.{arith}
 use lib.Dec.{eqb}
 use lib.ListN.{length}
 use Rattle.rules.specs.declared.Reply.{Reply}
-use Rattle.rules.specs.declared.Fault.TheVariants.{Sound}
 use Rattle.rules.specs.Limits.{state_limit}
 use Rattle.rules.specs.Layouts.{context_layout, specification_layout}
 use Rattle.rules.specs.Faults.{fault}
@@ -74,7 +73,7 @@ module _ (k : Skid) where
       go false = wanted_few w
 
 module _ (context specification sets next : List ℕ) where
-  context_sound : refuses (solve_refusal context specification sets next) ≡ false → fault context_layout context ≡ Sound
+  context_sound : refuses (solve_refusal context specification sets next) ≡ false → fault context_layout context ≡ Ok tt
   unfolding solve_refusal skid_refusal record_refusal
   context_sound e =
       let (skid, _) = or_else_fine (skid_refusal context specification) _ e in
@@ -83,7 +82,7 @@ module _ (context specification sets next : List ℕ) where
 
   -- few states, of a context without fault
   abbrev Small : Reply → Type 0
-  Small reply = (reply.states ≤ state_limit) × (fault context_layout context ≡ Sound)
+  Small reply = (reply.states ≤ state_limit) × (fault context_layout context ≡ Ok tt)
 
   for_small : (w : Wanted) → (solve_for context specification sets next w).reply.number ≡ 0 → Small (solve_for context specification sets next w).reply
   unfolding solve_for solved
@@ -100,7 +99,7 @@ module _ (context specification sets next : List ℕ) where
       go false e z = (solution_few (skid_of context specification) w, context_sound e)
 
 pub solved_small : (mode : ℕ) (context specification sets next : List ℕ) (reply : Reply) (sets' next' : List ℕ)
-    → Solved mode context specification sets next reply sets' next' → reply.number ≡ 0 → (reply.states ≤ state_limit) × (fault context_layout context ≡ Sound)
+    → Solved mode context specification sets next reply sets' next' → reply.number ≡ 0 → (reply.states ≤ state_limit) × (fault context_layout context ≡ Ok tt)
 unfolding solve solve_by
 solved_small mode context specification sets next reply sets' next' done z =
     subst (Small context specification sets next) (sym done.reply_is) (go (mode_of mode) (ap (λ r. r.number) (sym done.reply_is) ∙ z))

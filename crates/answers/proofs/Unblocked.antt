@@ -1,7 +1,7 @@
 -- The rounds of deletion that the unblocked answer counts: at most as many as there are plain states, each of them deletes something, and a further one would
 -- delete nothing. And so the rounds of every reply of solving.
 -- Assumes nothing.
-use Rattle.std.specs.Prelude.{if◌then◌else◌}
+use Rattle.std.specs.Prelude.{Ok, Err, if◌then◌else◌}
 use mathlib.Core.Path.{◌≡◌, refl, sym, subst}
 use mathlib.Core.Bool.{Bool, true, false}
 use mathlib.Core.List.{List}
@@ -10,8 +10,8 @@ use native.Mathlib.Omega.{arith}
 use lib.ListN.{length}
 use Rattle.rules.specs.declared.Reply.{Reply}
 use Rattle.rules.specs.Layouts.{Layout, context_layout, specification_layout}
-use Rattle.rules.specs.Faults.{fault_number, fault_row, is_sound, fault}
-use Rattle.rules.specs.Replies.{refusal, fine, refuses, unless, ◌or_else◌, fault_reply, record_refusal}
+use Rattle.rules.specs.Faults.{Finding, fault}
+use Rattle.rules.specs.Replies.{refuses, unless, ◌or_else◌, fault_reply, record_refusal}
 use Rattle.rules.specs.Matching.{skid_refusal, outside_refusal, product_refusal}
 use Rattle.rules.specs.Tables.{Skid, skid_of}
 use Rattle.rules.specs.Discover.{Numbered}
@@ -89,11 +89,11 @@ unless_none false number table = refl
 
 record_none : (table : ℕ) (l : Layout) (b : List ℕ) → (record_refusal table l b).rounds ≡ 0
 unfolding record_refusal fault_reply
-record_none table l b = go (is_sound (fault l b))
+record_none table l b = go (fault l b)
   where
-    go : (c : Bool) → (if c then fine else refusal (fault_number (fault l b)) table (fault_row (fault l b)) 0).rounds ≡ 0
-    go true = refl
-    go false = refl
+    go : (f : Finding) → (fault_reply table f).rounds ≡ 0
+    go (Ok _) = refl
+    go (Err f) = refl
 
 module _ (context specification sets next : List ℕ) where
   refused_none : (solve_refusal context specification sets next).rounds ≡ 0

@@ -12,14 +12,13 @@ use Rattle.words.specs.Words.{◌⊆◌}
 use Rattle.words.specs.System.{Good}
 use Rattle.pairs.specs.Scans.{all}
 use Rattle.pairs.proofs.Scans.{all_yes}
-use Rattle.rules.specs.declared.Reading.{Reading}
 use Rattle.rules.specs.Layouts.{controller_layout}
 use Rattle.rules.specs.Bytes.{bytes_of, written}
 use Rattle.rules.specs.Records.{record_of}
 use Rattle.rules.specs.Counts.{context_counts}
 use Rattle.rules.specs.Replies.{success}
 use Rattle.rules.specs.NextTables.{listing}
-use Rattle.rules.specs.Reading.{read_unless, controller_refusal, read_controller}
+use Rattle.rules.specs.Reading.{Reading, reading_reply, reading_counts, read_unless, read_record, in_room, read_controller}
 use Rattle.rules.specs.Writing.{places, controller_bytes, WriteOutcome, write_controller}
 use Rattle.rules.specs.RoundTrips.{ReadBack, WrittenBack, Bytes}
 use Rattle.rules.specs.Skids.{controller_record, k1, k5}
@@ -126,17 +125,17 @@ abbrev follows_read : Reading
 follows_read = (read_controller follows lent_next).reading
 
 abbrev follows_written : WriteOutcome
-follows_written = write_controller follows_read.counts.u follows_read.counts.v follows_read.counts.states (read_controller follows lent_next).next buffer 3
+follows_written = write_controller (reading_counts follows_read).u (reading_counts follows_read).v (reading_counts follows_read).states (read_controller follows lent_next).next buffer 3
 
 follows_bytes : Bytes follows
 unfolding follows all
 follows_bytes x h = ltb→lt x 256 (all_yes (λ x. ltb x 256) follows tt x h)
 
-follows_read_lem : follows_read.reply.number ≡ 0
-unfolding follows computed checks lent_next read_unless controller_refusal read_controller
+follows_read_lem : (reading_reply follows_read).number ≡ 0
+unfolding follows computed checks lent_next read_unless read_record in_room read_controller
 follows_read_lem = refl
 
-follows_written_back : WrittenBack follows buffer 3 follows_read.counts.states follows_written.reply follows_written.buffer
+follows_written_back : WrittenBack follows buffer 3 (reading_counts follows_read).states follows_written.reply follows_written.buffer
 unfolding follows buffer
 follows_written_back = kept.read_written follows lent_next follows_read (read_controller follows lent_next).next follows_bytes (record { reading_is = refl; next_is = refl }) follows_read_lem
     buffer 3 follows_written.reply follows_written.buffer (omega arith) (record { reply_is = refl; buffer_is = refl })

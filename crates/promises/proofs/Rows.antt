@@ -5,7 +5,7 @@ use mathlib.Core.Bool.{true}
 use mathlib.Core.List.{List}
 use Prim.Native.Nat.{ℕ}
 use lib.ListN.{get_or}
-use Rattle.rules.specs.declared.Fault.TheVariants.{Sound}
+use Rattle.std.specs.Prelude.{Ok}
 use Rattle.rules.specs.Layouts.{context_layout, specification_layout, controller_layout}
 use Rattle.rules.specs.Faults.{fault}
 use Rattle.rules.specs.Tables.{skid_of, row_state, row_next}
@@ -18,7 +18,7 @@ use Rattle.rules.proofs.Read.{six, context_row_lem, specification_row_lem, speci
 use Rattle.promises.specs.Rows.{IsSkidOfRows, IsTableOfRows}
 
 -- a row's fields are below the context's counts, so it is a row of codes of the skid
-pub skid_of_rows : (context specification : List ℕ) → fault context_layout context ≡ Sound → fault specification_layout specification ≡ Sound
+pub skid_of_rows : (context specification : List ℕ) → fault context_layout context ≡ Ok tt → fault specification_layout specification ≡ Ok tt
     → outside_agree context specification ≡ true → IsSkidOfRows context specification
 unfolding skid_of context_layout
 skid_of_rows context specification ec es agree = record {
@@ -36,7 +36,7 @@ skid_of_rows context specification ec es agree = record {
 }
 
 -- the same of a controller's rows, by the context's U and V
-pub table_of_rows : (context specification controller : List ℕ) → fault controller_layout controller ≡ Sound
+pub table_of_rows : (context specification controller : List ℕ) → fault controller_layout controller ≡ Ok tt
     → letters_agree context controller ≡ true → IsTableOfRows context specification controller
 table_of_rows context specification controller et agree = record {
   controller_steps = λ d l d'. controller_row_lem context specification controller et agree d l.0.0 l.1.0 d' l.0.1 l.1.1;

@@ -15,7 +15,7 @@ use Rattle.words.proofs.Answer.{good_same}
 use Rattle.pairs.specs.Scans.{all_with}
 use Rattle.pairs.specs.Lent.{filled}
 use Rattle.rules.specs.declared.Reply.{Reply}
-use Rattle.rules.specs.declared.Fault.TheVariants.{Sound}
+use Rattle.std.specs.Prelude.{Ok}
 use Rattle.rules.specs.Limits.{state_limit, set_numbers, next_numbers}
 use Rattle.rules.specs.Layouts.{context_layout, specification_layout, controller_layout}
 use Rattle.rules.specs.Counts.{context_counts}
@@ -50,7 +50,7 @@ within_limits u v states u_low u_high v_low v_high low high =
 
 -- a table of so many states at the front of lent numbers
 module _ (context specification sets next : List ℕ) (states : ℕ) (sets' next' : List ℕ)
-    (context_sound : fault context_layout context ≡ Sound) (specification_sound : fault specification_layout specification ≡ Sound)
+    (context_sound : fault context_layout context ≡ Ok tt) (specification_sound : fault specification_layout specification ≡ Ok tt)
     (outside : outside_agree context specification ≡ true) (product : product_fits context specification ≡ true)
     (hold : HoldTable context specification states sets next sets' next') (few : states ≤ state_limit)
     (good : Good (skid_system context specification) (WordsOf context specification next')) where

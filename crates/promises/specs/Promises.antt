@@ -6,11 +6,10 @@ use Rattle.std.specs.Prelude.{◌≡◌, ◌↔◌, ◌⊎◌, List, ℕ, ◌+�
 use Rattle.words.specs.Words.{Words, ◌⊆◌}
 use Rattle.words.specs.System.{Letter, Good}
 use Rattle.rules.specs.declared.Reply.{Reply}
-use Rattle.rules.specs.declared.Reading.{Reading}
 use Rattle.rules.specs.Limits.{set_numbers, next_numbers}
 use Rattle.rules.specs.Counts.{context_counts}
 use Rattle.rules.specs.Replies.{success}
-use Rattle.rules.specs.Reading.{ControllerRead}
+use Rattle.rules.specs.Reading.{Reading, reading_reply, reading_counts, ControllerRead}
 use Rattle.rules.specs.Writing.{places, controller_bytes, ControllerWritten}
 use Rattle.rules.specs.RoundTrips.{ReadBack, WrittenBack, Bytes}
 use Rattle.verdicts.specs.declared.Verdict.TheVariants.{Fits}
@@ -92,7 +91,7 @@ pub record Promises : Type 1 where
       → (lent : List ℕ) (r : Reading) (lent' : List ℕ) → next_numbers ≤ length lent
       → ControllerRead (take (length (controller_bytes n_u n_v states next)) (drop start buffer')) lent r lent'
       → ReadBack n_u n_v states (places n_u n_v states next) lent r lent'
-  pub read_written : (b lent : List ℕ) (r : Reading) (lent' : List ℕ) → Bytes b → ControllerRead b lent r lent' → r.reply.number ≡ 0
+  pub read_written : (b lent : List ℕ) (r : Reading) (lent' : List ℕ) → Bytes b → ControllerRead b lent r lent' → (reading_reply r).number ≡ 0
       → (buffer : List ℕ) (start : ℕ) (reply : Reply) (buffer' : List ℕ) → start + length b ≤ length buffer
-      → ControllerWritten r.counts.u r.counts.v r.counts.states lent' buffer start reply buffer'
-      → WrittenBack b buffer start r.counts.states reply buffer'
+      → ControllerWritten (reading_counts r).u (reading_counts r).v (reading_counts r).states lent' buffer start reply buffer'
+      → WrittenBack b buffer start (reading_counts r).states reply buffer'

@@ -1,10 +1,9 @@
 -- When solving gives an answer, by the input alone: "Where both tables are legal and match, and 01's limits on pairs, plain states and buffers hold".
 -- Assumes nothing.
-use Rattle.std.specs.Prelude.{◌≡◌, true, List, ℕ, ◌≤◌, length}
+use Rattle.std.specs.Prelude.{◌≡◌, true, List, ℕ, ◌≤◌, length, Ok}
 use Rattle.words.specs.System.{Letter}
 use Rattle.words.specs.Words.{Words}
 use Rattle.words.specs.States.{MoreSets}
-use Rattle.rules.specs.declared.Fault.TheVariants.{Sound}
 use Rattle.rules.specs.Limits.{state_limit, set_numbers, next_numbers}
 use Rattle.rules.specs.Layouts.{context_layout, specification_layout}
 use Rattle.rules.specs.Faults.{fault}
@@ -16,8 +15,8 @@ use Rattle.verdicts.specs.Checkable.{skid_system}
 
 -- the two records are legal and match, the product of states is within its limit, and so many numbers are lent: no refusal 1 to 10
 pub record Solvable (context specification sets next : List ℕ) : Type 0 where
-  pub context_sound : fault context_layout context ≡ Sound
-  pub specification_sound : fault specification_layout specification ≡ Sound
+  pub context_sound : fault context_layout context ≡ Ok tt
+  pub specification_sound : fault specification_layout specification ≡ Ok tt
   pub outside_agrees : outside_agree context specification ≡ true
   pub product_fits_lem : product_fits context specification ≡ true
   pub sets_room : set_numbers ≤ length sets

@@ -1,6 +1,6 @@
 -- The rows of a next table, listed by places: no more than places, fields below their counts, keys that rise; and their table is the one listed.
 -- Assumes nothing.
-use Rattle.std.specs.Prelude.{if◌then◌else◌}
+use Rattle.std.specs.Prelude.{if◌then◌else◌, Ok}
 use mathlib.Core.Path.{◌≡◌, refl, ap, ◌∙◌}
 use mathlib.Core.Logic.{◌⊎◌, inl, inr, ⊎_elim, ◌≢◌}
 use mathlib.Core.Bool.{Bool, true, false}
@@ -14,7 +14,6 @@ use lib.ListN.{length, set, replicate, length-append}
 use lib.Seq.{append_snoc, set_at}
 use borrow.Author.Tests.{eqb-true, eqb-false, lt-ltb}
 use Rattle.pairs.specs.Scans.{all_with, same, less}
-use Rattle.std.specs.Prelude.{Ok}
 use Rattle.rules.specs.Limits.{absent}
 use Rattle.rules.specs.Layouts.{controller_layout}
 use Rattle.rules.specs.Faults.{row_fault, rows_fault}

@@ -1,6 +1,6 @@
 -- A write that is not refused: its bytes stand at the start place, and are a controller record without fault, with the counts and the places given.
 -- Assumes nothing.
-use Rattle.std.specs.Prelude.{if◌then◌else◌}
+use Rattle.std.specs.Prelude.{if◌then◌else◌, Ok}
 use mathlib.Core.Path.{◌≡◌, refl, sym, ap, subst, ◌∙◌}
 use mathlib.Core.Logic.{inl, inr, ⊎_elim}
 use mathlib.Core.Bool.{Bool, true, false, not, ◌||◌, true≢false}
@@ -16,7 +16,6 @@ use mir.Facts.{and_yes, or_yes}
 use Rattle.pairs.specs.Scans.{first_place, total}
 use Rattle.pairs.proofs.Lists.{place_none}
 use Rattle.rules.specs.declared.Reply.{Reply}
-use Rattle.std.specs.Prelude.{Ok}
 use Rattle.rules.specs.Limits.{absent, state_limit}
 use Rattle.rules.specs.Layouts.{controller_layout}
 use Rattle.rules.specs.Records.{counts_in}

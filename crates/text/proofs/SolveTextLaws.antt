@@ -11,7 +11,7 @@ use mir.Syntax.{w16}
 use mir.Val.{Fits}
 use Rattle.rules.specs.declared.Reply.{Reply}
 use Rattle.rules.specs.declared.Counts.{Counts}
-use Rattle.rules.specs.declared.Fault.TheVariants.{Sound}
+use Rattle.std.specs.Prelude.{Ok}
 use Rattle.rules.specs.declared.Kind.TheVariants.{Context}
 use Rattle.rules.specs.Limits.{state_limit, set_numbers, next_numbers}
 use Rattle.rules.specs.Layouts.{context_layout}
@@ -30,7 +30,7 @@ use Rattle.text.proofs.ProgramLaws.{bytes_from, cut_first, cut_behind, buffer_st
 
 -- ---- two records
 -- the codes of a context without fault, and the places of at most 512 states
-small_codes : (context : List ℕ) (states : ℕ) → fault context_layout context ≡ Sound → states ≤ state_limit
+small_codes : (context : List ℕ) (states : ℕ) → fault context_layout context ≡ Ok tt → states ≤ state_limit
     → let counts : Counts = context_counts context in Codes counts.u counts.v (states * (counts.u * counts.v))
 unfolding context_layout state_limit
 small_codes context states sound few =

@@ -1,13 +1,12 @@
 -- When the check of three records gives a verdict, by the input alone, and what the verdict then speaks of: the skid, the controller's words, the
 -- reached pairs.
 -- Assumes nothing.
-use Rattle.std.specs.Prelude.{◌≡◌, ◌↔◌, true, List, ℕ, ◌*◌, ◌≤◌, ◌<◌, T, length, get_or}
+use Rattle.std.specs.Prelude.{◌≡◌, ◌↔◌, true, List, ℕ, ◌*◌, ◌≤◌, ◌<◌, T, length, get_or, Ok}
 use Rattle.words.specs.Words.{Words}
 use Rattle.words.specs.System.{System, Letter}
 use Rattle.words.specs.Fit.{Triple}
 use Rattle.pairs.specs.Sets.{member, empty}
 use Rattle.pairs.specs.Lent.{filled, encoded_sets}
-use Rattle.rules.specs.declared.Fault.TheVariants.{Sound}
 use Rattle.rules.specs.Limits.{set_numbers}
 use Rattle.rules.specs.Layouts.{context_layout, specification_layout, controller_layout}
 use Rattle.rules.specs.Counts.{context_counts, specification_counts, controller_counts}
@@ -19,9 +18,9 @@ use Rattle.rules.specs.Meaning.{system, table_step, TableWords, InSet}
 
 -- the three records are legal and match, the product of states is within its limit, and so many numbers are lent: no refusal 1 to 10
 pub record Checkable (context specification controller sets : List ℕ) : Type 0 where
-  pub context_sound : fault context_layout context ≡ Sound
-  pub specification_sound : fault specification_layout specification ≡ Sound
-  pub controller_sound : fault controller_layout controller ≡ Sound
+  pub context_sound : fault context_layout context ≡ Ok tt
+  pub specification_sound : fault specification_layout specification ≡ Ok tt
+  pub controller_sound : fault controller_layout controller ≡ Ok tt
   pub outside_agrees : outside_agree context specification ≡ true
   pub letters_agree_lem : letters_agree context controller ≡ true
   pub product_fits_lem : product_fits context specification ≡ true
