@@ -4,6 +4,6 @@
 mod numbers; // numbers of one or two bytes
 mod layouts; // the three kinds of record
 pub mod faults; // refusals 1 to 7
-pub mod readers; // the three readers, and a record's counts
+pub mod readers; // a record's counts, or its refusal
 pub mod lookup; // the rows of a context
 pub mod tables; // next tables

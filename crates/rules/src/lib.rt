@@ -67,36 +67,6 @@ pub enum Refusal {
     Mode,
 }
 
-// The reply of a refusal.
-impl From<Refusal> for Reply {
-    ghost from_gives = { λ r reply. reply ≡ refusal_reply r };
-
-    fn from(r: Refusal) -> Reply {
-        match r {
-            Refusal::Record(kind, fault) => fault_reply(kind as u32, fault),
-            Refusal::Codes(kind) => refused(8, kind as u32),
-            Refusal::Pairs => refused(9, 0),
-            Refusal::Room => refused(10, 0),
-            Refusal::Mode => refused(13, 0),
-        }
-    }
-}
-
-// A fault of a record, as a reply.
-fn fault_reply(of: u32, fault: Fault) -> Reply
-    ensures { result ≡ refusal (fault_number fault) of (fault_row fault) 0 }
-{
-    match fault {
-        Fault::Length => refused(1, of),
-        Fault::Kind => refused(2, of),
-        Fault::Cut => refused(3, of),
-        Fault::Limit => refused(4, of),
-        Fault::Code(row) => refused_at(5, of, row),
-        Fault::EqualKey(row) => refused_at(6, of, row),
-        Fault::LowerKey(row) => refused_at(7, of, row),
-    }
-}
-
 // The counts of a record that was read; 0 where its kind has no such count.
 #[derive(Clone, Copy)]
 pub struct Counts {
@@ -157,4 +127,34 @@ pub fn refused(number: u32, of: u32) -> Reply
     ensures { Refused number of result }
 {
     refused_at(number, of, 0)
+}
+
+// The reply of a refusal.
+impl From<Refusal> for Reply {
+    ghost from_gives = { λ r reply. reply ≡ refusal_reply r };
+
+    fn from(r: Refusal) -> Reply {
+        match r {
+            Refusal::Record(kind, fault) => fault_reply(kind as u32, fault),
+            Refusal::Codes(kind) => refused(8, kind as u32),
+            Refusal::Pairs => refused(9, 0),
+            Refusal::Room => refused(10, 0),
+            Refusal::Mode => refused(13, 0),
+        }
+    }
+}
+
+// A fault of a record, as a reply.
+fn fault_reply(of: u32, fault: Fault) -> Reply
+    ensures { result ≡ refusal (fault_number fault) of (fault_row fault) 0 }
+{
+    match fault {
+        Fault::Length => refused(1, of),
+        Fault::Kind => refused(2, of),
+        Fault::Cut => refused(3, of),
+        Fault::Limit => refused(4, of),
+        Fault::Code(row) => refused_at(5, of, row),
+        Fault::EqualKey(row) => refused_at(6, of, row),
+        Fault::LowerKey(row) => refused_at(7, of, row),
+    }
 }
