@@ -20,3 +20,4 @@ pub mod Determined
 pub mod RowLaws
 pub mod RowFoldLaws
 pub mod MemberFoldLaws
+pub mod PairsLaws
