@@ -1,16 +1,15 @@
 -- The predicates of the public functions determine the outcome.
 -- Assumes nothing.
+use Rattle.std.specs.Prelude.{Option}
 use mathlib.Core.Path.{◌≡◌}
 use mathlib.Core.List.{List}
 use Prim.Native.Nat.{ℕ}
 use Rattle.pairs.proofs.Determined.{determined}
 use Rattle.rules.specs.declared.Reply.{Reply}
 use Rattle.answers.specs.declared.Wanted.{Wanted}
-use Rattle.answers.specs.declared.Mode.{Mode}
-use Rattle.answers.specs.declared.Answer.{Answer}
-use Rattle.answers.specs.Solve.{ModeOf, AnswerReplied, SolveOutcome, solve_for, solve, Gives, Solved, SolvedFor}
+use Rattle.answers.specs.Solve.{ModeOf, Answer, AnswerReplied, SolveOutcome, solve_for, solve, Gives, Solved, SolvedFor}
 
-pub mode_determined : (number : ℕ) (m n : Mode) → ModeOf number m → ModeOf number n → m ≡ n
+pub mode_determined : (number : ℕ) (m n : Option Wanted) → ModeOf number m → ModeOf number n → m ≡ n
 mode_determined number m n = determined
 
 pub answer_determined : (a : Answer) (r s : Reply) → AnswerReplied a r → AnswerReplied a s → r ≡ s

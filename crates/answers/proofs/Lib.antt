@@ -1,4 +1,3 @@
-pub mod Modes
 pub mod Plain
 pub mod After
 pub mod Kept

@@ -1,5 +1,6 @@
 -- The order of refusals of solving, on records written by hand from document 01, computed: each input has the next fault of the order too.
 -- Assumes nothing.
+use Rattle.std.specs.Prelude.{Err}
 use mathlib.Core.Path.{◌≡◌, refl}
 use Prim.Native.Nat.{ℕ}
 use mathlib.Core.List.{List, [], ◌∷◌, map}
@@ -14,8 +15,8 @@ use Rattle.rules.specs.Records.{rows_of}
 use Rattle.rules.specs.Faults.{head_fault, row_fault, rows_fault, fault}
 use Rattle.rules.specs.Replies.{success, refusal, unless, ◌or_else◌, fault_reply, record_refusal}
 use Rattle.rules.specs.Matching.{skid_refusal, outside_agree, product_fits, outside_refusal, product_refusal}
-use Rattle.answers.specs.declared.Answer.TheVariants.{Table, TooMany, None}
-use Rattle.answers.specs.Solve.{answer_reply, solve_refusal, solve_for, solve_by, solve}
+use Rattle.answers.specs.declared.Unsolved.TheVariants.{TooMany, Nothing}
+use Rattle.answers.specs.Solve.{table_found, answer_reply, solve_refusal, solve_for, solve_by, solve}
 
 -- I=O=U=V=1. "States 8 and 8 pass, 5 and 13 give 9."
 abbrev context : ℕ → List ℕ
@@ -54,5 +55,5 @@ unfolding less total context_layout little numbers rows_of head_fault row_fault 
 stays = refl
 
 -- the number and the values of each answer
-numbered : map answer_reply (Table 4 2 ∷ TooMany ∷ None 3 ∷ []) ≡ success 4 2 ∷ refusal 11 0 0 0 ∷ refusal 12 0 0 3 ∷ []
+numbered : map answer_reply (table_found 4 2 ∷ Err TooMany ∷ Err (Nothing 3) ∷ []) ≡ success 4 2 ∷ refusal 11 0 0 0 ∷ refusal 12 0 0 3 ∷ []
 numbered = refl

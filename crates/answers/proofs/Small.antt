@@ -1,6 +1,6 @@
 -- What solving with reply 0 says of its sizes: the answer has at most 512 states, and the context was read without fault.
 -- Assumes nothing.
-use Rattle.std.specs.Prelude.{if◌then◌else◌, Ok}
+use Rattle.std.specs.Prelude.{if◌then◌else◌, Ok, Option as Optional, Some, None, Err}
 use mathlib.Core.Path.{◌≡◌, refl, sym, ap, subst, ◌∙◌}
 use mathlib.Core.Bool.{Bool, true, false, not, true≢false}
 use mathlib.Core.Option.{Option, none, some}
@@ -23,9 +23,7 @@ use Rattle.rules.proofs.ReadsFine.{no_fault}
 use Rattle.rules.proofs.NotRefused.{or_else_fine}
 use Rattle.answers.specs.declared.Wanted.{Wanted}
 use Rattle.answers.specs.declared.Wanted.TheVariants.{Plain, Unblocked}
-use Rattle.answers.specs.declared.Mode.{Mode}
-use Rattle.answers.specs.declared.Mode.TheVariants.{Known, Unknown}
-use Rattle.answers.specs.declared.Answer.TheVariants.{TooMany}
+use Rattle.answers.specs.declared.Unsolved.TheVariants.{TooMany}
 use Rattle.answers.specs.Plain.{after, start_set, plain}
 use Rattle.answers.specs.Unblocked.{step_on, afresh}
 use Rattle.answers.specs.Solve.{mode_of, answer_reply, Solution, no_table, plain_solution, solution_of, solution, SolveOutcome, stays, solved, solve_refusal, solve_for, solve_by, solve, Solved}
@@ -68,7 +66,7 @@ module _ (k : Skid) where
   unfolding solution
   solution_few w = go (plain k).over
     where
-      go : (b : Bool) → Few (if b then no_table TooMany else solution_of w k (plain k))
+      go : (b : Bool) → Few (if b then no_table (Err TooMany) else solution_of w k (plain k))
       go true = omega arith
       go false = wanted_few w
 
@@ -104,6 +102,6 @@ unfolding solve solve_by
 solved_small mode context specification sets next reply sets' next' done z =
     subst (Small context specification sets next) (sym done.reply_is) (go (mode_of mode) (ap (λ r. r.number) (sym done.reply_is) ∙ z))
   where
-    go : (m : Mode) → (solve_by context specification sets next m).reply.number ≡ 0 → Small context specification sets next (solve_by context specification sets next m).reply
-    go Unknown e = absurd (omega arith)
-    go (Known w) e = for_small context specification sets next w e
+    go : (m : Optional Wanted) → (solve_by context specification sets next m).reply.number ≡ 0 → Small context specification sets next (solve_by context specification sets next m).reply
+    go None e = absurd (omega arith)
+    go (Some w) e = for_small context specification sets next w e

@@ -1,7 +1,7 @@
 -- The rounds of deletion that the unblocked answer counts: at most as many as there are plain states, each of them deletes something, and a further one would
 -- delete nothing. And so the rounds of every reply of solving.
 -- Assumes nothing.
-use Rattle.std.specs.Prelude.{Ok, Err, if◌then◌else◌}
+use Rattle.std.specs.Prelude.{Ok, Err, if◌then◌else◌, Option, Some, None}
 use mathlib.Core.Path.{◌≡◌, refl, sym, subst}
 use mathlib.Core.Bool.{Bool, true, false}
 use mathlib.Core.List.{List}
@@ -18,13 +18,11 @@ use Rattle.rules.specs.Discover.{Numbered}
 use Rattle.rules.specs.Continues.{every_input}
 use Rattle.answers.specs.declared.Wanted.{Wanted}
 use Rattle.answers.specs.declared.Wanted.TheVariants.{Plain, Unblocked}
-use Rattle.answers.specs.declared.Mode.{Mode}
-use Rattle.answers.specs.declared.Mode.TheVariants.{Known, Unknown}
-use Rattle.answers.specs.declared.Answer.TheVariants.{Table, TooMany, None}
+use Rattle.answers.specs.declared.Unsolved.TheVariants.{TooMany, Nothing}
 use Rattle.answers.specs.Plain.{plain}
 use Rattle.answers.specs.Rounds.{is_kept, Deletion, round}
 use Rattle.answers.specs.Unblocked.{sets_of, passes, unblocked, afresh}
-use Rattle.answers.specs.Solve.{mode_of, answer_reply, Solution, no_table, plain_solution, unblocked_solution, solution_of, solution, stays, solved, solve_refusal, solve_for, solve_by, solve, Solved}
+use Rattle.answers.specs.Solve.{table_found, mode_of, answer_reply, Solution, no_table, plain_solution, unblocked_solution, solution_of, solution, stays, solved, solve_refusal, solve_for, solve_by, solve, Solved}
 use Rattle.answers.proofs.Rounds.{after_rounds, rounds_at_most, rounds_deleting, lasting_after, lasting_done}
 
 module _ (k : Skid) (sets next : List ℕ) (asked : ℕ → ℕ → Bool) where
@@ -58,9 +56,9 @@ unblocked_few k p = go (is_kept d.kept 0)
     f = afresh k p.states p.next d.kept
 
     table : Solution
-    table = record { answer = Table (length f.states) d.rounds; sets = sets_of p.states f.states; next = f.next }
+    table = record { answer = table_found (length f.states) d.rounds; sets = sets_of p.states f.states; next = f.next }
 
-    go : (b : Bool) → (answer_reply (if b then table else no_table (None d.rounds)).answer).rounds ≤ length p.states
+    go : (b : Bool) → (answer_reply (if b then table else no_table (Err (Nothing d.rounds))).answer).rounds ≤ length p.states
     go true = unblocked_rounds k p.states p.next every_input
     go false = unblocked_rounds k p.states p.next every_input
 
@@ -68,7 +66,7 @@ answer_few : (w : Wanted) (k : Skid) → (answer_reply (solution w k).answer).ro
 unfolding solution solution_of plain_solution
 answer_few w k = go (plain k).over w
   where
-    go : (b : Bool) (w : Wanted) → (answer_reply (if b then no_table TooMany else solution_of w k (plain k)).answer).rounds ≤ length (plain k).states
+    go : (b : Bool) (w : Wanted) → (answer_reply (if b then no_table (Err TooMany) else solution_of w k (plain k)).answer).rounds ≤ length (plain k).states
     go true w = omega arith
     go false Plain = omega arith
     go false Unblocked = unblocked_few k (plain k)
@@ -110,10 +108,10 @@ module _ (context specification sets next : List ℕ) where
       go true = rw refused_none (omega arith)
       go false = answer_few w (skid_of context specification)
 
-  by_few : (m : Mode) → (solve_by context specification sets next m).reply.rounds ≤ length (plain (skid_of context specification)).states
+  by_few : (m : Option Wanted) → (solve_by context specification sets next m).reply.rounds ≤ length (plain (skid_of context specification)).states
   unfolding solve_by
-  by_few Unknown = omega arith
-  by_few (Known w) = for_few w
+  by_few None = omega arith
+  by_few (Some w) = for_few w
 
   -- "never more than the plain states", of every reply in every mode
   pub rounds_few : (mode : ℕ) (reply : Reply) (sets' next' : List ℕ) → Solved mode context specification sets next reply sets' next'

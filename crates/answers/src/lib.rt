@@ -5,34 +5,36 @@
 ghost use Rattle.answers.specs.Solve.{ModeOf};
 
 // The answers that can be asked for.
-#[derive(Clone, Copy)]
+#[derive(Clone, Copy, PartialEq, Eq)]
 pub enum Wanted {
     Plain,
     Unblocked,
 }
 
-// What a mode number asks for.
+// A table found: so many states, after so many rounds.
 #[derive(Clone, Copy)]
-pub enum Mode {
-    Known(Wanted),
-    Unknown,
+pub struct Found {
+    pub states: u32,
+    pub rounds: u32,
 }
 
-// What solving finds: a table of so many states after so many rounds, more than 512 plain states, or none after so many rounds.
+// No table: more than 512 plain states, or none after so many rounds.
 #[derive(Clone, Copy)]
-pub enum Answer {
-    Table(u32, u32),
+pub enum Unsolved {
     TooMany,
-    None(u32),
+    Nothing(u32),
 }
 
-// What a mode number asks for.
-pub fn mode_of(number: u32) -> Mode
+// What solving finds.
+pub type Answer = Result<Found, Unsolved>;
+
+// What a mode number asks for; of other numbers nothing.
+pub fn mode_of(number: u32) -> Option<Wanted>
     ensures { ModeOf number result }
 {
     match number {
-        0 => Mode::Known(Wanted::Plain),
-        1 => Mode::Known(Wanted::Unblocked),
-        _ => Mode::Unknown,
+        0 => Some(Wanted::Plain),
+        1 => Some(Wanted::Unblocked),
+        _ => None,
     }
 }
