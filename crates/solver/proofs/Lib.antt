@@ -8,7 +8,6 @@ pub mod PlainLaws
 pub mod ByRowLaws
 pub mod ByPairLaws
 pub mod AfterLaws
-pub mod AnswerLaws
 pub mod BareLaws
 pub mod PassingLaws
 pub mod ClearedLaws

@@ -1,5 +1,6 @@
 -- The answer by its name and by its mode, from what a `match` has told.
 -- Assumes nothing.
+use Rattle.std.specs.Prelude.{Option, Some, None}
 use mathlib.Core.Path.{◌≡◌, refl, sym, subst, ◌∙◌}
 use mathlib.Core.List.{List}
 use Prim.Native.Nat.{ℕ}
@@ -7,28 +8,25 @@ use Rattle.rules.specs.declared.Reply.{Reply}
 use Rattle.rules.specs.Replies.{refusal}
 use Rattle.rules.specs.Tables.{Skid}
 use Rattle.answers.specs.declared.Wanted.{Wanted}
-use Rattle.answers.specs.declared.Mode.{Mode}
-use Rattle.answers.specs.declared.Mode.TheVariants.{Known, Unknown}
-use Rattle.answers.specs.declared.Answer.{Answer}
-use Rattle.answers.specs.Solve.{ModeOf, solution, solve_by, solve, Gives, Solved, SolvedFor}
+use Rattle.answers.specs.Solve.{Answer, ModeOf, solution, solve_by, solve, Gives, Solved, SolvedFor}
 use Rattle.solver.specs.Inside.{Answered}
 
 pub wanted_answered : (w told : Wanted) → w ≡ told → (k : Skid) (answer : Answer) (sets' next' sets next : List ℕ)
     → Answered (solution told k) answer sets' next' sets next → Answered (solution w k) answer sets' next' sets next
 wanted_answered w told is k answer sets' next' sets next = subst (λ w. Answered (solution w k) answer sets' next' sets next) (sym is)
 
-module _ (number : ℕ) (mode : Mode) (is : ModeOf number mode) (context specification sets next : List ℕ) where
-  by_mode : (told : Mode) → mode ≡ told → (r : Reply) (sets' next' : List ℕ) → Gives (solve_by context specification sets next told) r sets' next'
+module _ (number : ℕ) (mode : Option Wanted) (is : ModeOf number mode) (context specification sets next : List ℕ) where
+  by_mode : (told : Option Wanted) → mode ≡ told → (r : Reply) (sets' next' : List ℕ) → Gives (solve_by context specification sets next told) r sets' next'
       → Solved number context specification sets next r sets' next'
   unfolding solve
   by_mode told e r sets' next' = subst (λ m. Gives (solve_by context specification sets next m) r sets' next') (sym e ∙ is)
 
-  pub known_solved : (w : Wanted) → mode ≡ Known w → (r : Reply) (sets' next' : List ℕ) → SolvedFor w context specification sets next r sets' next'
+  pub known_solved : (w : Wanted) → mode ≡ Some w → (r : Reply) (sets' next' : List ℕ) → SolvedFor w context specification sets next r sets' next'
       → Solved number context specification sets next r sets' next'
   unfolding solve_by
-  known_solved w e = by_mode (Known w) e
+  known_solved w e = by_mode (Some w) e
 
   -- 13 "mode unknown": nothing is written
-  pub unknown_stays : mode ≡ Unknown → (r : Reply) → r ≡ refusal 13 0 0 0 → Solved number context specification sets next r sets next
+  pub unknown_stays : mode ≡ None → (r : Reply) → r ≡ refusal 13 0 0 0 → Solved number context specification sets next r sets next
   unfolding solve_by
-  unknown_stays e r refused = by_mode Unknown e r sets next (record { reply_is = refused; sets_are = refl; next_is = refl })
+  unknown_stays e r refused = by_mode None e r sets next (record { reply_is = refused; sets_are = refl; next_is = refl })

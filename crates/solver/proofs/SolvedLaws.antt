@@ -17,8 +17,7 @@ use Rattle.rules.specs.Tables.{skid_of, specification_table}
 use Rattle.rules.specs.Matching.{outside_agree, product_fits}
 use Rattle.rules.proofs.NotRefused.{or_else_fine, unless_fine}
 use Rattle.answers.specs.declared.Wanted.{Wanted}
-use Rattle.answers.specs.declared.Answer.{Answer}
-use Rattle.answers.specs.Solve.{answer_reply, solution, solved, solve_refusal, solve_for, SolvedFor}
+use Rattle.answers.specs.Solve.{Answer, answer_reply, solution, solved, solve_refusal, solve_for, SolvedFor}
 use Rattle.tables.specs.declared.Sizes.{Sizes}
 use Rattle.tables.specs.Inside.{skid_in}
 use Rattle.tables.specs.Skids.{sizes_of, SkidRead}

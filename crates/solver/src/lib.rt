@@ -17,7 +17,7 @@ mod unblocked; // the unblocked answer of a skid
 
 ghost use Rattle.answers.specs.Solve.{AnswerReplied};
 
-use answers::Answer;
+use answers::{Answer, Unsolved};
 use rules::{Reply, refused, succeeded};
 
 // The reply that an answer gives.
@@ -25,9 +25,9 @@ pub fn answer_reply(answer: Answer) -> Reply
     ensures { AnswerReplied answer result }
 {
     match answer {
-        Answer::Table(states, rounds) => succeeded(states, rounds),
-        Answer::TooMany => refused(11, 0),
-        Answer::None(rounds) => Reply {
+        Ok(found) => succeeded(found.states, found.rounds),
+        Err(Unsolved::TooMany) => refused(11, 0),
+        Err(Unsolved::Nothing(rounds)) => Reply {
             number: 12,
             record: 0,
             row: 0,

@@ -11,7 +11,7 @@ ghost use Rattle.solver.specs.Matched.{match_refusal, Matched};
 use super::answer_reply;
 use super::discovery::plain;
 use super::unblocked::unblocked;
-use answers::{Answer, Mode, Wanted, mode_of};
+use answers::{Answer, Wanted, mode_of};
 use pairs::PAIR_LIMIT;
 use records::tables::fill_specification;
 use rules::{Counts, NEXT_NUMBERS, Reply, SET_NUMBERS, STATE_LIMIT, refused, succeeded};
@@ -159,8 +159,8 @@ pub fn solve(
     ensures { Solved mode context.now specification.now sets.old next.old result
         sets.new next.new }
 {
-    match mode_of(mode) {
-        Mode::Known(wanted) => solve_for(wanted, context, specification, sets, next),
-        Mode::Unknown => refused(13, 0),
-    }
+    let Some(wanted) = mode_of(mode) else {
+        return refused(13, 0);
+    };
+    solve_for(wanted, context, specification, sets, next)
 }
