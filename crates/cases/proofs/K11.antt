@@ -1,6 +1,7 @@
 -- K11: "10 states: 512 plain states. 11 states: 11.", and both parts of the buffers are zero then. So the promise about 11 says something: of 11 states more than
 -- 512 plain words reach pairwise different sets.
 -- Assumes nothing.
+use Rattle.std.specs.Prelude.{Err}
 use mathlib.Core.Path.{◌≡◌, refl, ap}
 use mathlib.Core.Logic.{inl, inr}
 use mathlib.Core.List.{List, [], ◌∷◌, ◌++◌}
@@ -8,7 +9,7 @@ use Prim.Native.Nat.{ℕ}
 use lib.ListN.{replicate}
 use Rattle.rules.specs.Replies.{success, refusal}
 use Rattle.rules.specs.Skids.{free_two}
-use Rattle.answers.specs.declared.Answer.TheVariants.{TooMany}
+use Rattle.answers.specs.declared.Unsolved.TheVariants.{TooMany}
 use Rattle.answers.specs.Solve.{answer_reply, solve}
 use Rattle.answers.specs.Skids.{computed}
 use Rattle.promises.specs.Solvable.{TooManySets}
@@ -24,7 +25,7 @@ unfolding k11_solved
 eleven_states = refl
 
 -- where the definition gives 11, the promise gives the words
-many_words : (context specification sets next : List ℕ) → (solve 0 context specification sets next).reply.number ≡ (answer_reply TooMany).number → TooManySets context specification
+many_words : (context specification sets next : List ℕ) → (solve 0 context specification sets next).reply.number ≡ (answer_reply (Err TooMany)).number → TooManySets context specification
 many_words context specification sets next e =
     let keeps = kept.solving 0 context specification sets next (solve 0 context specification sets next).reply (solve 0 context specification sets next).sets
     (solve 0 context specification sets next).next (record { reply_is = refl; sets_are = refl; next_is = refl }) in

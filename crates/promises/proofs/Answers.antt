@@ -1,5 +1,6 @@
 -- What solving gives where an answer has been found: the plain answer, the unblocked answer and "none", with their meaning for words.
 -- Assumes nothing.
+use Rattle.std.specs.Prelude.{Err}
 use mathlib.Core.Path.{◌≡◌, refl, sym, subst, ◌∙◌}
 use mathlib.Core.Logic.Iff
 use mathlib.Core.Logic.{◌↔◌}
@@ -27,11 +28,11 @@ use Rattle.rules.specs.FirstDiscovery.{Discovery}
 use Rattle.rules.specs.Continues.{every_input}
 use Rattle.rules.specs.Meaning.{NextTable, Legal, table_step, TableWords}
 use Rattle.rules.proofs.Legal.{legal_skid}
-use Rattle.answers.specs.declared.Answer.TheVariants.{Table, None}
 use Rattle.answers.specs.Plain.{start_set, plain}
 use Rattle.answers.specs.Rounds.{is_kept}
 use Rattle.answers.specs.Unblocked.{sets_of}
-use Rattle.answers.specs.Solve.{answer_reply, no_table, plain_solution, solved, Gives}
+use Rattle.answers.specs.declared.Unsolved.TheVariants.{Nothing}
+use Rattle.answers.specs.Solve.{table_found, answer_reply, no_table, plain_solution, solved, Gives}
 use Rattle.answers.proofs.Plain.{set_steps, plain_discovered}
 use Rattle.answers.proofs.Afresh.{plain_table}
 use Rattle.answers.proofs.Solutions.{deleted, fresh, fresh_solution}
@@ -49,11 +50,11 @@ use Rattle.promises.proofs.Numbered.{plain_numbers, fresh_numbers}
 use Rattle.promises.proofs.Solvable.{zeros_given}
 
 -- a reply has its own values
-own_table : (reply : Reply) (states rounds : ℕ) → reply ≡ answer_reply (Table states rounds) → reply ≡ answer_reply (Table reply.states reply.rounds)
-own_table reply states rounds e = subst (λ r. r ≡ answer_reply (Table r.states r.rounds)) (sym e) refl
+own_table : (reply : Reply) (states rounds : ℕ) → reply ≡ answer_reply (table_found states rounds) → reply ≡ answer_reply (table_found reply.states reply.rounds)
+own_table reply states rounds e = subst (λ r. r ≡ answer_reply (table_found r.states r.rounds)) (sym e) refl
 
-own_none : (reply : Reply) (rounds : ℕ) → reply ≡ answer_reply (None rounds) → reply ≡ answer_reply (None reply.rounds)
-own_none reply rounds e = subst (λ r. r ≡ answer_reply (None r.rounds)) (sym e) refl
+own_none : (reply : Reply) (rounds : ℕ) → reply ≡ answer_reply (Err (Nothing rounds)) → reply ≡ answer_reply (Err (Nothing reply.rounds))
+own_none reply rounds e = subst (λ r. r ≡ answer_reply (Err (Nothing r.rounds))) (sym e) refl
 
 module _ (context specification sets next : List ℕ) (reply : Reply) (sets' next' : List ℕ)
     (can : Solvable context specification sets next) (found : (plain (skid_of context specification)).over ≡ false) where
@@ -82,7 +83,7 @@ module _ (context specification sets next : List ℕ) (reply : Reply) (sets' nex
       → IsPlainAnswer context specification sets next reply sets' next'
   unfolding solved plain_solution
   is_plain given = record {
-    reply_is = subst (λ r. r ≡ answer_reply (Table r.states 0)) (sym given.reply_is) refl;
+    reply_is = subst (λ r. r ≡ answer_reply (table_found r.states 0)) (sym given.reply_is) refl;
     words = words;
     undoes_composing = λ X closed. (
       λ h w x. (words w).1 ((stays_within_iff_plain s X closed).0 h w x),
@@ -148,12 +149,12 @@ module _ (context specification sets next : List ℕ) (reply : Reply) (sets' nex
       renamed : Renamed s m (deletion.after s m f (deleted k).rounds) (table_step k every_input (fresh k).next) 0
       renamed = fresh_renamed k every_input legal (plain k) discovery table (deleted k).kept (deletion.after s m f (deleted k).rounds) (unblocked_is k every_input legal (plain k) discovery table)
 
-  pub is_none : is_kept (deleted (skid_of context specification)).kept 0 ≡ false → Gives (solved sets next (no_table (None (deleted (skid_of context specification)).rounds))) reply sets' next'
+  pub is_none : is_kept (deleted (skid_of context specification)).kept 0 ≡ false → Gives (solved sets next (no_table (Err (Nothing (deleted (skid_of context specification)).rounds)))) reply sets' next'
       → IsNone context specification sets next reply sets' next'
   unfolding solved
   is_none e given = record {
     reply_is = own_none reply (deleted k).rounds given.reply_is;
     no_good = (none_iff_no_good s m f (deleted k).rounds rounds).0 (λ t. subst T (sym start_kept ∙ e) t);
     rounds = subst (λ (r : Reply). RoundsOfWords s r.rounds) (sym given.reply_is) rounds_words;
-    buffers = zeros_given (None (deleted k).rounds) given;
+    buffers = zeros_given (Err (Nothing (deleted k).rounds)) given;
   }

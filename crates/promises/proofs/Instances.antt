@@ -1,6 +1,7 @@
 -- No promise about solving has a premise that cannot be met: K1, K3 and K5 with lent buffers meet them, and what is promised then says something of each.
 -- (11, of more than 512 plain states, is K11's: crates/cases/proofs/K11.antt.)
 -- Assumes nothing.
+use Rattle.std.specs.Prelude.{Err}
 use mathlib.Core.Path.{◌≡◌, refl, sym, ap, ◌∙◌}
 use mathlib.Core.Logic.{◌⊎◌, ⊎_elim}
 use mathlib.Core.Bool.{true≢false, false}
@@ -14,9 +15,9 @@ use Rattle.rules.specs.Tables.{skid_of}
 use Rattle.rules.specs.Continues.{every_input}
 use Rattle.rules.specs.Skids.{Case, k1, k3, k5}
 use Rattle.rules.proofs.Legal.{legal_skid}
-use Rattle.answers.specs.declared.Answer.TheVariants.{Table, None}
 use Rattle.answers.specs.Plain.{plain}
-use Rattle.answers.specs.Solve.{answer_reply, SolveOutcome, solve, Solved}
+use Rattle.answers.specs.declared.Unsolved.TheVariants.{Nothing}
+use Rattle.answers.specs.Solve.{table_found, answer_reply, SolveOutcome, solve, Solved}
 use Rattle.answers.specs.Skids.{computed}
 use Rattle.verdicts.specs.Checkable.{skid_system}
 use Rattle.promises.specs.Solvable.{Solvable, TooManySets, WordsOf}
@@ -121,23 +122,23 @@ unfolding computed k5
 k5_few = few k5 k5_can refl
 
 -- what is answered to them
-pub k1_plain_reply : (outcome k1 0).reply ≡ answer_reply (Table 1 0)
+pub k1_plain_reply : (outcome k1 0).reply ≡ answer_reply (table_found 1 0)
 unfolding computed k1 lent_sets lent_next
 k1_plain_reply = refl
 
-pub k1_unblocked_reply : (outcome k1 1).reply ≡ answer_reply (Table 1 0)
+pub k1_unblocked_reply : (outcome k1 1).reply ≡ answer_reply (table_found 1 0)
 unfolding computed k1 lent_sets lent_next
 k1_unblocked_reply = refl
 
-k3_reply : (outcome k3 1).reply ≡ answer_reply (None 1)
+k3_reply : (outcome k3 1).reply ≡ answer_reply (Err (Nothing 1))
 unfolding computed k3 lent_sets lent_next
 k3_reply = refl
 
-pub k5_plain_reply : (outcome k5 0).reply ≡ answer_reply (Table 3 0)
+pub k5_plain_reply : (outcome k5 0).reply ≡ answer_reply (table_found 3 0)
 unfolding computed k5 lent_sets lent_next
 k5_plain_reply = refl
 
-pub k5_unblocked_reply : (outcome k5 1).reply ≡ answer_reply (Table 1 2)
+pub k5_unblocked_reply : (outcome k5 1).reply ≡ answer_reply (table_found 1 2)
 unfolding computed k5 lent_sets lent_next
 k5_unblocked_reply = refl
 

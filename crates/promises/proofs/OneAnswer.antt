@@ -1,6 +1,7 @@
 -- What the promises say of the reply and of the lent buffers, in words alone, leaves one outcome only: two tables that run the same words are one, and so are two
 -- plain answers, two unblocked answers or "none", and two outcomes of which all is kept that is promised of solving.
 -- Assumes nothing.
+use Rattle.std.specs.Prelude.{Some, Err}
 use mathlib.Core.Path.{◌≡◌, refl, sym, ap, subst, ◌∙◌}
 use mathlib.Core.Logic.Iff
 use mathlib.Core.Logic.{◌↔◌, ◌⊎◌, inl, inr}
@@ -25,9 +26,8 @@ use Rattle.rules.specs.Continues.{every_input}
 use Rattle.rules.specs.Meaning.{table_step, TableWords}
 use Rattle.answers.specs.declared.Wanted.{Wanted}
 use Rattle.answers.specs.declared.Wanted.TheVariants.{Plain, Unblocked}
-use Rattle.answers.specs.declared.Mode.TheVariants.{Known}
-use Rattle.answers.specs.declared.Answer.TheVariants.{Table, TooMany, None}
-use Rattle.answers.specs.Solve.{mode_of, answer_reply}
+use Rattle.answers.specs.declared.Unsolved.TheVariants.{TooMany, Nothing}
+use Rattle.answers.specs.Solve.{table_found, mode_of, answer_reply}
 use Rattle.verdicts.specs.Checkable.{skid_system}
 use Rattle.promises.specs.Solvable.{Solvable, TooManySets, WordsOf}
 use Rattle.promises.specs.Buffers.{LeadsTo, HoldTable, HoldZeros}
@@ -89,7 +89,7 @@ module _ (context specification sets next : List ℕ) (r s : Reply) (a b n m : L
   plain_answer_determined x y =
       let (states, e, d) = table_determined context specification sets next r.states s.states a n b m x.buffers y.buffers
       (λ w. Iff.trans (x.words w) (Iff.symm (y.words w))) in
-      (x.reply_is ∙ ap (λ l. answer_reply (Table l 0)) states ∙ sym y.reply_is, e, d)
+      (x.reply_is ∙ ap (λ l. answer_reply (table_found l 0)) states ∙ sym y.reply_is, e, d)
 
   zeros_determined : HoldZeros sets next a n → HoldZeros sets next b m → (a ≡ b) × (n ≡ m)
   zeros_determined x y = (determined x.sets_are y.sets_are, determined x.next_is y.next_is)
@@ -101,28 +101,28 @@ module _ (context specification sets next : List ℕ) (r s : Reply) (a b n m : L
       let rounds = rounds_words_unique (skid_system context specification) r.rounds s.rounds x.rounds y.rounds in
       let (states, e, d) = table_determined context specification sets next r.states s.states a n b m x.buffers y.buffers
       (λ w. (y.largest (WordsOf context specification n) x.good w, x.largest (WordsOf context specification m) y.good w)) in
-      (x.reply_is ∙ ap (λ l. answer_reply (Table l r.rounds)) states ∙ ap (λ l. answer_reply (Table s.states l)) rounds ∙ sym y.reply_is, e, d)
+      (x.reply_is ∙ ap (λ l. answer_reply (table_found l r.rounds)) states ∙ ap (λ l. answer_reply (table_found s.states l)) rounds ∙ sym y.reply_is, e, d)
   unblocked_answer_determined (inl x) (inr y) = absurd (y.no_good (WordsOf context specification n) x.good)
   unblocked_answer_determined (inr x) (inl y) = absurd (x.no_good (WordsOf context specification m) y.good)
   unblocked_answer_determined (inr x) (inr y) =
       let rounds = rounds_words_unique (skid_system context specification) r.rounds s.rounds x.rounds y.rounds in
       let (e, d) = zeros_determined x.buffers y.buffers in
-      (x.reply_is ∙ ap (λ l. answer_reply (None l)) rounds ∙ sym y.reply_is, e, d)
+      (x.reply_is ∙ ap (λ l. answer_reply (Err (Nothing l))) rounds ∙ sym y.reply_is, e, d)
 
   pub too_many_determined : IsTooMany context specification sets next r a n → IsTooMany context specification sets next s b m → (r ≡ s) × (a ≡ b) × (n ≡ m)
   too_many_determined x y = let (e, d) = zeros_determined x.buffers y.buffers in (determined x.reply_is y.reply_is, e, d)
 
   -- all that is promised of solving leaves one outcome, wherever 0, 11 or 12 is given
-  pub solving_determined : (mode : ℕ) (w : Wanted) → mode_of mode ≡ Known w → Solvable context specification sets next
+  pub solving_determined : (mode : ℕ) (w : Wanted) → mode_of mode ≡ Some w → Solvable context specification sets next
       → OfSolving mode context specification sets next r a n → OfSolving mode context specification sets next s b m → (r ≡ s) × (a ≡ b) × (n ≡ m)
-  solving_determined mode w e can x y = go (eqb r.number (answer_reply TooMany).number) refl
+  solving_determined mode w e can x y = go (eqb r.number (answer_reply (Err TooMany)).number) refl
     where
-      wanted : (w : Wanted) → mode_of mode ≡ Known w → (¬ TooManySets context specification) → (r ≡ s) × (a ≡ b) × (n ≡ m)
+      wanted : (w : Wanted) → mode_of mode ≡ Some w → (¬ TooManySets context specification) → (r ≡ s) × (a ≡ b) × (n ≡ m)
       wanted Plain e few = plain_answer_determined (x.plain e can few) (y.plain e can few)
       wanted Unblocked e few = unblocked_answer_determined (x.unblocked e can few) (y.unblocked e can few)
 
-      go : (t : Bool) → eqb r.number (answer_reply TooMany).number ≡ t → (r ≡ s) × (a ≡ b) × (n ≡ m)
+      go : (t : Bool) → eqb r.number (answer_reply (Err TooMany)).number ≡ t → (r ≡ s) × (a ≡ b) × (n ≡ m)
       go true d =
-          let z : r.number ≡ (answer_reply TooMany).number = eqb-true r.number (answer_reply TooMany).number d in
+          let z : r.number ≡ (answer_reply (Err TooMany)).number = eqb-true r.number (answer_reply (Err TooMany)).number d in
           too_many_determined (x.too_many_is z) (y.too_many_is ((y.too_many w e can).1 ((x.too_many w e can).0 z)))
-      go false d = wanted w e (λ many. eqb-false r.number (answer_reply TooMany).number d ((x.too_many w e can).1 many))
+      go false d = wanted w e (λ many. eqb-false r.number (answer_reply (Err TooMany)).number d ((x.too_many w e can).1 many))

@@ -1,5 +1,6 @@
 -- All that is promised is kept.
 -- Assumes nothing.
+use Rattle.std.specs.Prelude.{Some, Err}
 use mathlib.Core.Path.{◌≡◌, refl, sym, ap, subst}
 use mathlib.Core.Logic.Iff
 use mathlib.Core.Logic.{◌↔◌, ◌⊎◌, inl, inr, ⊎_elim}
@@ -16,10 +17,9 @@ use Rattle.rules.proofs.Legal.{legal_skid}
 use Rattle.rules.proofs.WriteRead.{write_then_read}
 use Rattle.rules.proofs.ReadWrite.{read_then_write}
 use Rattle.answers.specs.declared.Wanted.TheVariants.{Plain, Unblocked}
-use Rattle.answers.specs.declared.Mode.TheVariants.{Known}
-use Rattle.answers.specs.declared.Answer.TheVariants.{TooMany, None}
 use Rattle.answers.specs.Plain.{plain}
 use Rattle.answers.specs.Rounds.{is_kept}
+use Rattle.answers.specs.declared.Unsolved.TheVariants.{TooMany, Nothing}
 use Rattle.answers.specs.Solve.{mode_of, answer_reply, plain_solution, solved, Solved}
 use Rattle.answers.proofs.Unblocked as rounds
 use Rattle.answers.proofs.Solutions.{deleted}
@@ -53,7 +53,7 @@ module _ (mode : ℕ) (context specification sets next : List ℕ) (reply : Repl
     few_found few = not_true (plain k).over (λ e. few (over_exactly.0 e))
 
     -- mode 1, where the plain states are few enough: the start is kept or not
-    answered : mode_of mode ≡ Known Unblocked → (plain k).over ≡ false
+    answered : mode_of mode ≡ Some Unblocked → (plain k).over ≡ false
         → IsUnblockedAnswer context specification sets next reply sets' next' ⊎ IsNone context specification sets next reply sets' next'
     answered m found = go (is_kept (deleted k).kept 0) refl
       where
@@ -63,17 +63,17 @@ module _ (mode : ℕ) (context specification sets next : List ℕ) (reply : Repl
 
   -- 12 and a good controller exclude each other
   none_law : IsUnblockedAnswer context specification sets next reply sets' next' ⊎ IsNone context specification sets next reply sets' next'
-      → (reply.number ≡ (answer_reply (None 0)).number) ↔ ((X : Words (Letter (skid_system context specification))) → ¬ Good (skid_system context specification) X)
+      → (reply.number ≡ (answer_reply (Err (Nothing 0))).number) ↔ ((X : Words (Letter (skid_system context specification))) → ¬ Good (skid_system context specification) X)
   none_law (inl a) = (λ e. absurd (let z : reply.number ≡ 0 = ap (λ r. r.number) a.reply_is in omega arith), λ h. absurd (h _ a.good))
   none_law (inr a) = (λ e. a.no_good, λ h. ap (λ r. r.number) a.reply_is)
 
-  too_many_is : reply.number ≡ (answer_reply TooMany).number → IsTooMany context specification sets next reply sets' next'
+  too_many_is : reply.number ≡ (answer_reply (Err TooMany)).number → IsTooMany context specification sets next reply sets' next'
   unfolding solved
   too_many_is e =
       let ((w, m), can) = answered_solvable mode context specification sets next reply sets' next' done (inr (inl e)) in
       let over = (number_too_many mode context specification sets next reply sets' next' done m can).0 e in
       let given = too_many_given mode context specification sets next reply sets' next' done m can over in
-      record { reply_is = given.reply_is; buffers = zeros_given TooMany given }
+      record { reply_is = given.reply_is; buffers = zeros_given (Err TooMany) given }
 
   solving_keeps : OfSolving mode context specification sets next reply sets' next'
   solving_keeps = record {
@@ -87,13 +87,13 @@ module _ (mode : ℕ) (context specification sets next : List ℕ) (reply : Repl
   }
 
   -- where a table or "none" is given, the input was solvable and the plain states few enough
-  settled : (reply.number ≡ 0) ⊎ (reply.number ≡ (answer_reply (None 0)).number) → Solvable context specification sets next × ((plain k).over ≡ false)
+  settled : (reply.number ≡ 0) ⊎ (reply.number ≡ (answer_reply (Err (Nothing 0))).number) → Solvable context specification sets next × ((plain k).over ≡ false)
   settled h =
       let ((w, m), can) = answered_solvable mode context specification sets next reply sets' next' done (⊎_elim inl (λ z. inr (inr z)) h) in
       (can, not_true (plain k).over (λ over. let e = (number_too_many mode context specification sets next reply sets' next' done m can).1 over in ⊎_elim (λ z. omega arith) (λ z. omega arith) h))
 
-  module _ (m : mode_of mode ≡ Known Unblocked) where
-    settled_answer : (reply.number ≡ 0) ⊎ (reply.number ≡ (answer_reply (None 0)).number)
+  module _ (m : mode_of mode ≡ Some Unblocked) where
+    settled_answer : (reply.number ≡ 0) ⊎ (reply.number ≡ (answer_reply (Err (Nothing 0))).number)
         → IsUnblockedAnswer context specification sets next reply sets' next' ⊎ IsNone context specification sets next reply sets' next'
     settled_answer h = let (can, found) = settled h in answered can m found
 
@@ -103,7 +103,7 @@ module _ (mode : ℕ) (context specification sets next : List ℕ) (reply : Repl
 -- the rounds of mode 1 and the states of mode 0
 few_rounds : (mode mode₁ : ℕ) (context specification sets next : List ℕ) (reply reply₁ : Reply) (sets' next' sets₁ next₁ : List ℕ)
     → Solved mode context specification sets next reply sets' next' → Solved mode₁ context specification sets next reply₁ sets₁ next₁
-    → mode_of mode ≡ Known Plain → reply.number ≡ 0 → reply₁.rounds ≤ reply.states
+    → mode_of mode ≡ Some Plain → reply.number ≡ 0 → reply₁.rounds ≤ reply.states
 unfolding solved plain_solution
 few_rounds mode mode₁ context specification sets next reply reply₁ sets' next' sets₁ next₁ done done₁ m z =
     let (can, found) = settled mode context specification sets next reply sets' next' done (inl z) in

@@ -1,6 +1,6 @@
 -- Solving refuses with 1 to 10 exactly the inputs that are not solvable; all others are answered, each with the one of four solutions that is due.
 -- Assumes nothing.
-use Rattle.std.specs.Prelude.{if◌then◌else◌}
+use Rattle.std.specs.Prelude.{Option, Some, None, Err, if◌then◌else◌}
 use mathlib.Core.Path.{◌≡◌, refl, sym, ap, subst, ◌∙◌}
 use mathlib.Core.Logic.{◌↔◌, ◌⊎◌, ⊎_elim, ⊎_map}
 use mathlib.Core.Bool.{Bool, true, false, not, ◌&&◌, true≢false}
@@ -24,13 +24,10 @@ use Rattle.rules.proofs.ReadsFine.{no_fault}
 use Rattle.rules.proofs.NotRefused.{or_else_fine, unless_fine, or_else_most, unless_most, record_most}
 use Rattle.answers.specs.declared.Wanted.{Wanted}
 use Rattle.answers.specs.declared.Wanted.TheVariants.{Plain, Unblocked}
-use Rattle.answers.specs.declared.Mode.{Mode}
-use Rattle.answers.specs.declared.Mode.TheVariants.{Known, Unknown}
-use Rattle.answers.specs.declared.Answer.{Answer}
-use Rattle.answers.specs.declared.Answer.TheVariants.{TooMany, None}
 use Rattle.answers.specs.Plain.{plain}
 use Rattle.answers.specs.Rounds.{is_kept}
-use Rattle.answers.specs.Solve.{mode_of, answer_reply, Solution, no_table, plain_solution, unblocked_solution, solution_of, solution, SolveOutcome, stays, solved, solve_refusal, solve_for, solve_by, solve, Gives, Solved}
+use Rattle.answers.specs.declared.Unsolved.TheVariants.{TooMany, Nothing}
+use Rattle.answers.specs.Solve.{Answer, mode_of, answer_reply, Solution, no_table, plain_solution, unblocked_solution, solution_of, solution, SolveOutcome, stays, solved, solve_refusal, solve_for, solve_by, solve, Gives, Solved}
 use Rattle.answers.proofs.Solutions.{deleted, fresh_solution, over_solution, within_solution, kept_solution_lem, none_solution, either_solution}
 use Rattle.promises.specs.Solvable.{Solvable}
 use Rattle.promises.specs.Buffers.{HoldZeros}
@@ -99,27 +96,27 @@ module _ (context specification sets next : List ℕ) where
 
 -- the numbers of the answers: 0, 11 and 12
 abbrev Answered : ℕ → Type 0
-Answered n = (n ≡ 0) ⊎ (n ≡ (answer_reply TooMany).number) ⊎ (n ≡ (answer_reply (None 0)).number)
+Answered n = (n ≡ 0) ⊎ (n ≡ (answer_reply (Err TooMany)).number) ⊎ (n ≡ (answer_reply (Err (Nothing 0))).number)
 
 -- they are given to no other input
 pub answered_solvable : (mode : ℕ) (context specification sets next : List ℕ) (reply : Reply) (sets' next' : List ℕ)
     → Solved mode context specification sets next reply sets' next'
-    → (reply.number ≡ 0) ⊎ (reply.number ≡ (answer_reply TooMany).number) ⊎ (reply.number ≡ (answer_reply (None 0)).number)
-    → ((w : Wanted) × (mode_of mode ≡ Known w)) × Solvable context specification sets next
+    → (reply.number ≡ 0) ⊎ (reply.number ≡ (answer_reply (Err TooMany)).number) ⊎ (reply.number ≡ (answer_reply (Err (Nothing 0))).number)
+    → ((w : Wanted) × (mode_of mode ≡ Some w)) × Solvable context specification sets next
 unfolding solve solve_by
 answered_solvable mode context specification sets next reply sets' next' done h = go (mode_of mode) refl (subst (λ r. Answered r.number) done.reply_is h)
   where
-    go : (m : Mode) → mode_of mode ≡ m → Answered (solve_by context specification sets next m).reply.number
-        → ((w : Wanted) × (mode_of mode ≡ Known w)) × Solvable context specification sets next
-    go Unknown e h = absurd (⊎_elim (λ z. omega arith) (⊎_elim (λ z. omega arith) (λ z. omega arith)) h)
-    go (Known w) e h = ((w, e), answer_solvable context specification sets next w (⊎_map (λ z. z) (⊎_elim (λ z. omega arith) (λ z. omega arith)) h))
+    go : (m : Option Wanted) → mode_of mode ≡ m → Answered (solve_by context specification sets next m).reply.number
+        → ((w : Wanted) × (mode_of mode ≡ Some w)) × Solvable context specification sets next
+    go None e h = absurd (⊎_elim (λ z. omega arith) (⊎_elim (λ z. omega arith) (λ z. omega arith)) h)
+    go (Some w) e h = ((w, e), answer_solvable context specification sets next w (⊎_map (λ z. z) (⊎_elim (λ z. omega arith) (λ z. omega arith)) h))
 
 -- ---- the four solutions
 -- only one state too many gives 11
-not_over : (k : Skid) (w : Wanted) → (answer_reply (solution_of w k (plain k)).answer).number ≡ (answer_reply TooMany).number → ⊥
+not_over : (k : Skid) (w : Wanted) → (answer_reply (solution_of w k (plain k)).answer).number ≡ (answer_reply (Err TooMany)).number → ⊥
 unfolding solution_of plain_solution
 not_over k Plain e = omega arith
-not_over k Unblocked e = either_solution k (λ s. (answer_reply s.answer).number ≡ (answer_reply TooMany).number → ⊥) (λ e. omega arith) (λ e. omega arith) e
+not_over k Unblocked e = either_solution k (λ s. (answer_reply s.answer).number ≡ (answer_reply (Err TooMany)).number → ⊥) (λ e. omega arith) (λ e. omega arith) e
 
 module _ (mode : ℕ) (context specification sets next : List ℕ) (reply : Reply) (sets' next' : List ℕ) (done : Solved mode context specification sets next reply sets' next') where
   abbrev k : Skid
@@ -129,20 +126,20 @@ module _ (mode : ℕ) (context specification sets next : List ℕ) (reply : Repl
   abbrev Given : Solution → Type 0
   Given s = Gives (solved sets next s) reply sets' next'
 
-  pub solved_gives : {w : Wanted} → mode_of mode ≡ Known w → Solvable context specification sets next → Gives (solved sets next (solution w (skid_of context specification))) reply sets' next'
+  pub solved_gives : {w : Wanted} → mode_of mode ≡ Some w → Solvable context specification sets next → Gives (solved sets next (solution w (skid_of context specification))) reply sets' next'
   unfolding solve solve_by
   solved_gives {w} m s = subst (λ o. Gives o reply sets' next') (ap (solve_by context specification sets next) m ∙ solvable_solved context specification sets next s w) done
 
-  pub too_many_given : {w : Wanted} → mode_of mode ≡ Known w → Solvable context specification sets next → (plain (skid_of context specification)).over ≡ true
-      → Gives (solved sets next (no_table TooMany)) reply sets' next'
+  pub too_many_given : {w : Wanted} → mode_of mode ≡ Some w → Solvable context specification sets next → (plain (skid_of context specification)).over ≡ true
+      → Gives (solved sets next (no_table (Err TooMany))) reply sets' next'
   too_many_given {w} m s e = subst Given (over_solution k w e) (solved_gives m s)
 
-  pub plain_given : mode_of mode ≡ Known Plain → Solvable context specification sets next → (plain (skid_of context specification)).over ≡ false
+  pub plain_given : mode_of mode ≡ Some Plain → Solvable context specification sets next → (plain (skid_of context specification)).over ≡ false
       → Gives (solved sets next (plain_solution (plain (skid_of context specification)))) reply sets' next'
   unfolding solution_of
   plain_given m s e = subst Given (within_solution k Plain e) (solved_gives m s)
 
-  module _ (m : mode_of mode ≡ Known Unblocked) (s : Solvable context specification sets next) (few : (plain (skid_of context specification)).over ≡ false) where
+  module _ (m : mode_of mode ≡ Some Unblocked) (s : Solvable context specification sets next) (few : (plain (skid_of context specification)).over ≡ false) where
     unblocked_solution_lem : Given (unblocked_solution k (plain k))
     unfolding solution_of
     unblocked_solution_lem = subst Given (within_solution k Unblocked few) (solved_gives m s)
@@ -152,16 +149,16 @@ module _ (mode : ℕ) (context specification sets next : List ℕ) (reply : Repl
 
     -- "if the start is deleted, the answer is "none""
     pub none_given : is_kept (deleted (skid_of context specification)).kept 0 ≡ false
-        → Gives (solved sets next (no_table (None (deleted (skid_of context specification)).rounds))) reply sets' next'
+        → Gives (solved sets next (no_table (Err (Nothing (deleted (skid_of context specification)).rounds)))) reply sets' next'
     none_given e = subst Given (none_solution k e) unblocked_solution_lem
 
   -- 11 is given exactly where discovery met one state too many
-  pub number_too_many : {w : Wanted} → mode_of mode ≡ Known w → Solvable context specification sets next
-      → (reply.number ≡ (answer_reply TooMany).number) ↔ ((plain (skid_of context specification)).over ≡ true)
+  pub number_too_many : {w : Wanted} → mode_of mode ≡ Some w → Solvable context specification sets next
+      → (reply.number ≡ (answer_reply (Err TooMany)).number) ↔ ((plain (skid_of context specification)).over ≡ true)
   unfolding solved
   number_too_many {w} m s = (λ e. go (plain k).over refl e, λ e. ap (λ r. r.number) (too_many_given m s e).reply_is)
     where
-      go : (b : Bool) → (plain k).over ≡ b → reply.number ≡ (answer_reply TooMany).number → b ≡ true
+      go : (b : Bool) → (plain k).over ≡ b → reply.number ≡ (answer_reply (Err TooMany)).number → b ≡ true
       go true o e = refl
       go false o e = absurd (not_over k w (sym (ap (λ r. r.number) (subst Given (within_solution k w o) (solved_gives m s)).reply_is) ∙ e))
 

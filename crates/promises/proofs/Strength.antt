@@ -1,6 +1,7 @@
 -- Document 01, "Strength of the contracts", "Try these against them": each wrong program named there falls by what is promised of words, tables and
 -- counts, and by nothing else. Said of any outcome that keeps the promises on a skid with lent buffers, however it was computed.
 -- Assumes nothing.
+use Rattle.std.specs.Prelude.{Some}
 use mathlib.Core.Path.{◌≡◌, refl, sym, ap, subst, ◌∙◌}
 use mathlib.Core.Logic.{◌⊎◌, ⊎_elim}
 use mathlib.Core.List.{List, [], ◌∷◌, ◌++◌, append_assoc, append-nil}
@@ -17,7 +18,6 @@ use Rattle.rules.specs.Limits.{absent}
 use Rattle.rules.specs.Skids.{Case, k1, k3, k5}
 use Rattle.answers.specs.declared.Wanted.{Wanted}
 use Rattle.answers.specs.declared.Wanted.TheVariants.{Plain, Unblocked}
-use Rattle.answers.specs.declared.Mode.TheVariants.{Known}
 use Rattle.answers.specs.Solve.{mode_of, SolveOutcome}
 use Rattle.answers.specs.Skids.{computed}
 use Rattle.verdicts.specs.Checkable.{skid_system}
@@ -43,7 +43,7 @@ module _ (context specification sets next : List ℕ) (can : Solvable context sp
   rounds_of h = ⊎_elim (λ a. a.rounds) (λ n. n.rounds) (h.unblocked refl can few)
 
 -- what keeps the promise on a skid that can be solved is the outcome of the definition: the promises leave no other
-one_outcome : (c : Case) → CanSolve c → (mode : ℕ) (w : Wanted) → mode_of mode ≡ Known w → (o : SolveOutcome) → Keeps c mode o
+one_outcome : (c : Case) → CanSolve c → (mode : ℕ) (w : Wanted) → mode_of mode ≡ Some w → (o : SolveOutcome) → Keeps c mode o
     → (o.reply ≡ (outcome c mode).reply) × (o.sets ≡ (outcome c mode).sets) × (o.next ≡ (outcome c mode).next)
 one_outcome c can mode w e o h = kept.one_outcome mode w c.context c.specification lent_sets lent_next o.reply (outcome c mode).reply o.sets (outcome c mode).sets
     o.next (outcome c mode).next e can h (keeps c mode)

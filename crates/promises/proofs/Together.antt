@@ -34,8 +34,7 @@ use Rattle.verdicts.specs.Verdict.{verdict_reply}
 use Rattle.verdicts.specs.Check.{Checked}
 use Rattle.verdicts.specs.Checkable.{Checkable, skid_system, ControllerWords}
 use Rattle.verdicts.proofs.Checked.{check_fits, check_success, check_good}
-use Rattle.answers.specs.declared.Answer.TheVariants.{Table}
-use Rattle.answers.specs.Solve.{answer_reply}
+use Rattle.answers.specs.Solve.{table_found, answer_reply}
 use Rattle.promises.specs.Solvable.{WordsOf}
 use Rattle.promises.specs.Buffers.{HoldTable}
 use Rattle.promises.specs.Solving.{IsUnblockedAnswer, IsNone}
@@ -146,7 +145,7 @@ module _ (context specification sets next : List ℕ) (states : ℕ) (sets' next
 pub inside : (context specification sets next : List ℕ) (reply : Reply) (sets' next' : List ℕ)
     → IsUnblockedAnswer context specification sets next reply sets' next' ⊎ IsNone context specification sets next reply sets' next'
     → (controller lent : List ℕ) (verdict : Reply) (lent' : List ℕ) → Checked context specification controller lent verdict lent' → verdict.number ≡ 0
-    → (reply ≡ answer_reply (Table reply.states reply.rounds)) × (ControllerWords context specification controller ⊆ WordsOf context specification next')
+    → (reply ≡ answer_reply (table_found reply.states reply.rounds)) × (ControllerWords context specification controller ⊆ WordsOf context specification next')
 inside context specification sets next reply sets' next' answer controller lent verdict lent' checked e = ⊎_elim
     (λ a. (a.reply_is, a.largest (ControllerWords context specification controller) (check_good checked e)))
     (λ n. absurd (n.no_good (ControllerWords context specification controller) (check_good checked e)))

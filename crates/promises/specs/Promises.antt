@@ -2,7 +2,7 @@
 -- `ControllerWritten`: writing::write_controller, `ControllerRead`: records::readers::read_controller) and beside it facts about the input alone. It is kept by
 -- `kept` in proofs/Promises.antt.
 -- Assumes nothing.
-use Rattle.std.specs.Prelude.{◌≡◌, ◌↔◌, ◌⊎◌, List, ℕ, ◌+◌, ◌≤◌, length, take, drop}
+use Rattle.std.specs.Prelude.{◌≡◌, ◌↔◌, ◌⊎◌, List, ℕ, ◌+◌, ◌≤◌, length, take, drop, Some, Err}
 use Rattle.words.specs.Words.{Words, ◌⊆◌}
 use Rattle.words.specs.System.{Letter, Good}
 use Rattle.rules.specs.declared.Reply.{Reply}
@@ -18,9 +18,8 @@ use Rattle.verdicts.specs.Check.{Checked}
 use Rattle.verdicts.specs.Checkable.{Checkable, skid_system, ControllerWords}
 use Rattle.answers.specs.declared.Wanted.{Wanted}
 use Rattle.answers.specs.declared.Wanted.TheVariants.{Plain, Unblocked}
-use Rattle.answers.specs.declared.Mode.TheVariants.{Known}
-use Rattle.answers.specs.declared.Answer.TheVariants.{Table, TooMany, None}
-use Rattle.answers.specs.Solve.{mode_of, answer_reply, Solved}
+use Rattle.answers.specs.declared.Unsolved.TheVariants.{TooMany, Nothing}
+use Rattle.answers.specs.Solve.{table_found, mode_of, answer_reply, Solved}
 use Rattle.promises.specs.Solvable.{Solvable, TooManySets, WordsOf}
 use Rattle.promises.specs.Rows.{IsSkidOfRows, IsTableOfRows}
 use Rattle.promises.specs.Solving.{IsPlainAnswer, IsUnblockedAnswer, IsNone, IsTooMany}
@@ -29,21 +28,21 @@ use Rattle.promises.specs.Checking.{IsVerdict}
 -- ---- conditions 2 and 3 of solving: of every outcome that `Solved` allows
 pub record OfSolving (mode : ℕ) (context specification sets next : List ℕ) (reply : Reply) (sets' next' : List ℕ) : Type 1 where
   -- mode 0 gives the plain answer
-  pub plain : mode_of mode ≡ Known Plain → Solvable context specification sets next → ¬ TooManySets context specification
+  pub plain : mode_of mode ≡ Some Plain → Solvable context specification sets next → ¬ TooManySets context specification
       → IsPlainAnswer context specification sets next reply sets' next'
   -- mode 1 gives the unblocked answer, or "none"
-  pub unblocked : mode_of mode ≡ Known Unblocked → Solvable context specification sets next → ¬ TooManySets context specification
+  pub unblocked : mode_of mode ≡ Some Unblocked → Solvable context specification sets next → ¬ TooManySets context specification
       → IsUnblockedAnswer context specification sets next reply sets' next' ⊎ IsNone context specification sets next reply sets' next'
   -- ""None" is given exactly when there is no such controller."
-  pub none_exactly : mode_of mode ≡ Known Unblocked → Solvable context specification sets next → ¬ TooManySets context specification
-      → (reply.number ≡ (answer_reply (None 0)).number) ↔ ((X : Words (Letter (skid_system context specification))) → ¬ Good (skid_system context specification) X)
+  pub none_exactly : mode_of mode ≡ Some Unblocked → Solvable context specification sets next → ¬ TooManySets context specification
+      → (reply.number ≡ (answer_reply (Err (Nothing 0))).number) ↔ ((X : Words (Letter (skid_system context specification))) → ¬ Good (skid_system context specification) X)
   -- 11, in either mode: "more than 512 plain states"
-  pub too_many : (w : Wanted) → mode_of mode ≡ Known w → Solvable context specification sets next
-      → (reply.number ≡ (answer_reply TooMany).number) ↔ TooManySets context specification
-  pub too_many_is : reply.number ≡ (answer_reply TooMany).number → IsTooMany context specification sets next reply sets' next'
+  pub too_many : (w : Wanted) → mode_of mode ≡ Some w → Solvable context specification sets next
+      → (reply.number ≡ (answer_reply (Err TooMany)).number) ↔ TooManySets context specification
+  pub too_many_is : reply.number ≡ (answer_reply (Err TooMany)).number → IsTooMany context specification sets next reply sets' next'
   -- 0, 11 and 12 are given to no other input
-  pub given : (reply.number ≡ 0) ⊎ (reply.number ≡ (answer_reply TooMany).number) ⊎ (reply.number ≡ (answer_reply (None 0)).number)
-      → ((w : Wanted) × (mode_of mode ≡ Known w)) × Solvable context specification sets next
+  pub given : (reply.number ≡ 0) ⊎ (reply.number ≡ (answer_reply (Err TooMany)).number) ⊎ (reply.number ≡ (answer_reply (Err (Nothing 0))).number)
+      → ((w : Wanted) × (mode_of mode ≡ Some w)) × Solvable context specification sets next
 
 -- ---- condition 2 of the check: of every outcome that `Checked` allows
 pub record OfChecking (context specification controller sets : List ℕ) (reply : Reply) (sets' : List ℕ) : Type 0 where
@@ -64,10 +63,10 @@ pub record Promises : Type 1 where
   -- "Rounds .. are never more than the plain states": the rounds of any mode and the states of mode 0, of one skid
   pub rounds_few : (mode mode₁ : ℕ) (context specification sets next : List ℕ) (reply reply₁ : Reply) (sets' next' sets₁ next₁ : List ℕ)
       → Solved mode context specification sets next reply sets' next' → Solved mode₁ context specification sets next reply₁ sets₁ next₁
-      → mode_of mode ≡ Known Plain → reply.number ≡ 0 → reply₁.rounds ≤ reply.states
+      → mode_of mode ≡ Some Plain → reply.number ≡ 0 → reply₁.rounds ≤ reply.states
   -- what mode 1 answers with 0, written anywhere and checked, fits
   pub solved_fits : (mode : ℕ) (context specification sets next : List ℕ) (reply : Reply) (sets' next' : List ℕ)
-      → Solved mode context specification sets next reply sets' next' → mode_of mode ≡ Known Unblocked → reply.number ≡ 0
+      → Solved mode context specification sets next reply sets' next' → mode_of mode ≡ Some Unblocked → reply.number ≡ 0
       → (buffer : List ℕ) (start : ℕ) (written : Reply) (buffer' : List ℕ)
       → ControllerWritten (context_counts context).u (context_counts context).v reply.states next' buffer start written buffer'
       → let size : ℕ = length (controller_bytes (context_counts context).u (context_counts context).v reply.states next') in start + size ≤ length buffer
@@ -76,13 +75,13 @@ pub record Promises : Type 1 where
       → verdict ≡ verdict_reply reply.states Fits)
   -- a controller record that fits lies inside what mode 1 answers, where it answers; and it does answer with a table then
   pub fits_inside : (mode : ℕ) (context specification sets next : List ℕ) (reply : Reply) (sets' next' : List ℕ)
-      → Solved mode context specification sets next reply sets' next' → mode_of mode ≡ Known Unblocked
-      → (reply.number ≡ 0) ⊎ (reply.number ≡ (answer_reply (None 0)).number)
+      → Solved mode context specification sets next reply sets' next' → mode_of mode ≡ Some Unblocked
+      → (reply.number ≡ 0) ⊎ (reply.number ≡ (answer_reply (Err (Nothing 0))).number)
       → (controller lent : List ℕ) (verdict : Reply) (lent' : List ℕ) → Checked context specification controller lent verdict lent' → verdict.number ≡ 0
-      → (reply ≡ answer_reply (Table reply.states reply.rounds)) × (ControllerWords context specification controller ⊆ WordsOf context specification next')
+      → (reply ≡ answer_reply (table_found reply.states reply.rounds)) × (ControllerWords context specification controller ⊆ WordsOf context specification next')
   -- ---- the strength of it: no two outcomes keep what is promised of solving
   pub one_outcome : (mode : ℕ) (w : Wanted) (context specification sets next : List ℕ) (reply reply₁ : Reply) (sets' sets₁ next' next₁ : List ℕ)
-      → mode_of mode ≡ Known w → Solvable context specification sets next
+      → mode_of mode ≡ Some w → Solvable context specification sets next
       → OfSolving mode context specification sets next reply sets' next' → OfSolving mode context specification sets next reply₁ sets₁ next₁
       → (reply ≡ reply₁) × (sets' ≡ sets₁) × (next' ≡ next₁)
   -- ---- condition 2: "A controller table written and read back is unchanged, and so is a controller record read and written again."
