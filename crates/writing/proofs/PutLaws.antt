@@ -1,15 +1,16 @@
 -- What putting bytes into a buffer needs: stores at its front, a part of it that is lent, the rows' bytes with one place more, and a whole record.
 -- Assumes nothing.
 use Rattle.std.specs.Prelude.{if◌then◌else◌}
+use Rattle.std.specs.Int.{w16, to_le_bytes}
 use mathlib.Core.Path.{◌≡◌, refl, sym, ap, ◌∙◌}
 use mathlib.Core.Bool.{Bool, true, false}
 use mathlib.Core.List.{List, [], ◌∷◌, ◌++◌, flat_map, append_assoc, append-nil}
-use Prim.Native.Nat.{ℕ, suc, ◌+◌, ◌-◌, ◌*◌, ◌^◌, ◌≤◌, ◌<◌}
+use Prim.Native.Nat.{ℕ, suc, ◌+◌, ◌-◌, ◌*◌, ◌/◌, ◌%◌, ◌^◌, ◌≤◌, ◌<◌}
 use native.Mathlib.Nat.{zero-add, add-zero, mul-le-mul, mul-pos}
 use native.Mathlib.Omega.{arith}
 use lib.Dec.{eqb}
-use lib.ListN.{length, get_or, take, drop, length-append, length-take, length-drop, drop_of_length-le, take-append-drop}
-use lib.Seq.{sets, sets-eq, take_at, drop_at, take_all, drop-drop}
+use lib.ListN.{length, get_or, take, drop, length-append, length-drop, drop_of_length-le, take-append-drop}
+use lib.Seq.{sets, sets-eq, take_at, drop_at, take_all, take-length, drop-drop}
 use borrow.Author.Tests.{eqb-true, eqb-false}
 use Rattle.rules.specs.Limits.{absent}
 use Rattle.rules.specs.Layouts.{controller_layout}
@@ -19,8 +20,8 @@ use Rattle.rules.specs.NextTables.{listing}
 use Rattle.rules.specs.Writing.{places, controller_bytes}
 use Rattle.pairs.specs.Lent.{leading, spliced_at}
 use Rattle.rules.proofs.EachRow.{no_places, no_row, a_row, absent_place, present_place, rows_more, one_more_few}
-use Rattle.writing.specs.Inside.{present, row_bytes, rows_bytes, head_bytes, Codes, Writable}
 use Rattle.writing.proofs.SurveyLaws.{present_few}
+use Rattle.writing.specs.Inside.{present, row_bytes, rows_bytes, head_bytes, Codes, Writable}
 
 -- ---- stores at the front
 
@@ -114,30 +115,31 @@ pub leading_none : (n_u n_v : ℕ) (out : List ℕ) → out ≡ leading (rows_by
 unfolding rows_bytes
 leading_none n_u n_v out = rw (no_places put n_u n_v 0)
 
-module _ (n_u n_v size p at : ℕ) (next o out : List ℕ) where
-  pub turn_room : p < size → size ≤ length next → length (rows_bytes n_u n_v 0 (take size next)) ≤ length o → at ≡ length (rows_bytes n_u n_v 0 (take p next))
-      → out ≡ leading (rows_bytes n_u n_v 0 (take p next)) o → at + length (rows_bytes n_u n_v p (get_or next p 0 ∷ [])) ≤ length out
+module _ (n_u n_v p at : ℕ) (places o out : List ℕ) (is_at : at ≡ length (rows_bytes n_u n_v 0 (take p places))) (is_out : out ≡ leading (rows_bytes n_u n_v 0 (take p places)) o) where
+  pub turn_room : p < length places → length (rows_bytes n_u n_v 0 places) ≤ length o → at + length (rows_bytes n_u n_v p (get_or places p 0 ∷ [])) ≤ length out
   unfolding rows_bytes
-  turn_room more enough room is_at is_out =
-      let few = one_more_few put n_u n_v size p next more enough in
-      rw (is_out, length_leading (rows_bytes n_u n_v 0 (take p next)) o (omega arith)) (omega arith)
+  turn_room more room =
+      let few = rw take-length at (one_more_few put n_u n_v (length places) p places more (omega arith)) in
+      rw (is_out, length_leading (rows_bytes n_u n_v 0 (take p places)) o (omega arith)) (omega arith)
 
-  pub turn_at : (at' : ℕ) → p < size → size ≤ length next → at ≡ length (rows_bytes n_u n_v 0 (take p next))
-      → at' ≡ at + length (rows_bytes n_u n_v p (get_or next p 0 ∷ [])) → at' ≡ length (rows_bytes n_u n_v 0 (take (p + 1) next))
+  pub turn_at : (at' : ℕ) → p < length places → at' ≡ at + length (rows_bytes n_u n_v p (get_or places p 0 ∷ [])) → at' ≡ length (rows_bytes n_u n_v 0 (take (p + 1) places))
   unfolding rows_bytes
-  turn_at at' more enough is_at is_next = rw (rows_more put n_u n_v p next (omega arith), length-append, ← is_at) is_next
+  turn_at at' more is_next = rw (rows_more put n_u n_v p places more, length-append, ← is_at) is_next
 
-  pub turn_out : (out' : List ℕ) → p < size → size ≤ length next → at ≡ length (rows_bytes n_u n_v 0 (take p next)) → out ≡ leading (rows_bytes n_u n_v 0 (take p next)) o
-      → out' ≡ spliced_at at (rows_bytes n_u n_v p (get_or next p 0 ∷ [])) out → out' ≡ leading (rows_bytes n_u n_v 0 (take (p + 1) next)) o
+  pub turn_out : (out' : List ℕ) → p < length places → out' ≡ spliced_at at (rows_bytes n_u n_v p (get_or places p 0 ∷ [])) out → out' ≡ leading (rows_bytes n_u n_v 0 (take (p + 1) places)) o
   unfolding rows_bytes
-  turn_out out' more enough is_at is_out is_next =
-      is_next ∙ rw (is_out, rows_more put n_u n_v p next (omega arith)) (leading_more (rows_bytes n_u n_v 0 (take p next)) (rows_bytes n_u n_v p (get_or next p 0 ∷ [])) o at is_at)
+  turn_out out' more is_next =
+      is_next ∙ rw (is_out, rows_more put n_u n_v p places more) (leading_more (rows_bytes n_u n_v 0 (take p places)) (rows_bytes n_u n_v p (get_or places p 0 ∷ [])) o at is_at)
 
-  pub end_out : p ≤ size → size ≤ p → out ≡ leading (rows_bytes n_u n_v 0 (take p next)) o → out ≡ leading (rows_bytes n_u n_v 0 (take size next)) o
-  end_out h k is_out = let e : size ≡ p = omega arith in rw e is_out
+  module _ (end : length places ≤ p) where
+    all_taken : take p places ≡ places
+    all_taken = take_all p places end
 
-  pub end_size : p ≤ size → size ≤ p → length (rows_bytes n_u n_v 0 (take size next)) ≤ length o → out ≡ leading (rows_bytes n_u n_v 0 (take p next)) o → length out ≡ length o
-  end_size h k room is_out = let e : size ≡ p = omega arith in rw is_out (length_leading (rows_bytes n_u n_v 0 (take p next)) o (rw e at room))
+    pub end_out : out ≡ leading (rows_bytes n_u n_v 0 places) o
+    end_out = rw (← all_taken) is_out
+
+    pub end_size : length (rows_bytes n_u n_v 0 places) ≤ length o → length out ≡ length o
+    end_size room = rw end_out (length_leading (rows_bytes n_u n_v 0 places) o room)
 
 -- ---- a whole record
 
@@ -168,16 +170,50 @@ module _ (n_u n_v states : ℕ) (next : List ℕ) where
   pub head_left : (o out : List ℕ) → length (controller_bytes n_u n_v states next) ≤ length o → length out ≡ length o → 8 ≤ length out
   head_left o out h e = omega (arith, length_controller)
 
-  module _ (size rows : ℕ) (w : Writable n_u n_v states next size rows) where
-    pub rows_at_most : rows ≤ 8192
-    rows_at_most = rw w.rows_are (omega (arith, present_few (take size next), length-take size next, w.size_is, mul-le-mul w.few_states (codes_few n_u n_v w.codes)))
+-- of a controller that is not refused
+module _ (n_u n_v states : ℕ) (all : List ℕ) (rows : ℕ) (w : Writable n_u n_v states all rows) where
+  pub places_few : length all ≤ 8192
+  places_few = rw w.size_is (mul-le-mul w.few_states (codes_few n_u n_v w.codes))
 
-    pub rows_room : (o out : List ℕ) → length (controller_bytes n_u n_v states next) ≤ length o → length out ≡ length o → length (rows_bytes n_u n_v 0 (take size next)) ≤ length (take (length out - 8) (drop 8 out))
-    rows_room o out h e = rw (lent_part, length-drop, w.size_is, length_rows) (omega (arith, length_controller))
+  pub rows_at_most : rows ≤ 8192
+  rows_at_most = rw w.rows_are (omega (arith, present_few all, places_few))
 
-    pub record_out : (o out back : List ℕ) → out ≡ leading (head_bytes n_u n_v states rows) o → back ≡ leading (rows_bytes n_u n_v 0 (take size next)) (take (length out - 8) (drop 8 out))
-        → take 8 out ++ (back ++ drop (length out - 8) (drop 8 out)) ≡ leading (controller_bytes n_u n_v states next) o
-    record_out o out back is_out is_back =
-        let bytes : controller_bytes n_u n_v states next ≡ head_bytes n_u n_v states rows ++ rows_bytes n_u n_v 0 (take size next) = rw (w.rows_are, w.size_is) controller_bytes_lem in
-        lent_back out 8 back (rows_bytes n_u n_v 0 (take size next)) is_back
-        ∙ rw (is_out, bytes) (leading_more (head_bytes n_u n_v states rows) (rows_bytes n_u n_v 0 (take size next)) o 8 (sym (length_head rows)))
+  pub rows_fit : rows * 6 < 2 ^ 64
+  rows_fit = omega (arith, rows_at_most)
+
+  pub after_fits : 6 + rows * 6 < 2 ^ 64
+  after_fits = omega (arith, rows_at_most)
+
+  pub after_small : 6 + rows * 6 < 2 ^ 16
+  after_small = omega (arith, rows_at_most)
+
+  -- its places are all that there are
+  same_places : places n_u n_v states all ≡ all
+  same_places = take_all (states * (n_u * n_v)) all (omega (arith, w.size_is))
+
+  -- the bytes of the head, and of the row of place p
+  pub head_put : (o after count put : List ℕ) → after ≡ to_le_bytes w16 (6 + rows * 6) → count ≡ to_le_bytes w16 states
+      → put ≡ get_or after 0 0 ∷ get_or after 1 0 ∷ 67 ∷ 84 ∷ n_u ∷ n_v ∷ get_or count 0 0 ∷ get_or count 1 0 ∷ [] → put ++ drop 8 o ≡ leading (head_bytes n_u n_v states rows) o
+  unfolding bytes_of written controller_layout
+  head_put o after count put is_after is_count e =
+      let few_u : n_u % 256 ≡ n_u = omega (arith, w.codes.few_u) in
+      let few_v : n_v % 256 ≡ n_v = omega (arith, w.codes.few_v) in
+      rw (e, is_after, is_count, few_u, few_v)
+
+  pub row_put : (p : ℕ) (o state to put : List ℕ) → state ≡ to_le_bytes w16 (p / (n_u * n_v)) → to ≡ to_le_bytes w16 (get_or all p 0)
+      → put ≡ get_or state 0 0 ∷ get_or state 1 0 ∷ p / n_v % n_u ∷ p % n_v ∷ get_or to 0 0 ∷ get_or to 1 0 ∷ [] → put ++ drop 6 o ≡ leading (row_bytes n_u n_v p (get_or all p 0)) o
+  unfolding bytes_of written controller_layout
+  row_put p o state to put is_state is_to e =
+      let few_u : p / n_v % n_u % 256 ≡ p / n_v % n_u = omega (arith, w.codes.some_u, w.codes.few_u) in
+      let few_v : p % n_v % 256 ≡ p % n_v = omega (arith, w.codes.some_v, w.codes.few_v) in
+      rw (e, is_state, is_to, few_u, few_v)
+
+  pub rows_room : (o out : List ℕ) → length (controller_bytes n_u n_v states all) ≤ length o → length out ≡ length o → length (rows_bytes n_u n_v 0 all) ≤ length (take (length out - 8) (drop 8 out))
+  rows_room o out h e = rw (lent_part, length-drop, length_rows) (omega (arith, rw same_places at (length_controller n_u n_v states all)))
+
+  pub record_out : (o out back : List ℕ) → out ≡ leading (head_bytes n_u n_v states rows) o → back ≡ leading (rows_bytes n_u n_v 0 all) (take (length out - 8) (drop 8 out))
+      → take 8 out ++ (back ++ drop (length out - 8) (drop 8 out)) ≡ leading (controller_bytes n_u n_v states all) o
+  record_out o out back is_out is_back =
+      let bytes : controller_bytes n_u n_v states all ≡ head_bytes n_u n_v states rows ++ rows_bytes n_u n_v 0 all = rw w.rows_are (rw same_places at (controller_bytes_lem n_u n_v states all)) in
+      lent_back out 8 back (rows_bytes n_u n_v 0 all) is_back
+      ∙ rw (is_out, bytes) (leading_more (head_bytes n_u n_v states rows) (rows_bytes n_u n_v 0 all) o 8 (sym (length_head n_u n_v states all rows)))

@@ -1,26 +1,24 @@
 -- What the private functions promise to each other. No promise to a caller names these.
 -- Assumes nothing.
-use Rattle.std.specs.Prelude.{◌≡◌, ℕ, ◌+◌, ◌*◌, ◌/◌, ◌%◌, ◌≤◌, eqb, length, take, if◌then◌else◌}
+use Rattle.std.specs.Prelude.{◌≡◌, ℕ, ◌+◌, ◌*◌, ◌/◌, ◌%◌, ◌≤◌, Bool, not, ◌||◌, ltb, eqb, length, Result, Ok, Err, if◌then◌else◌}
 use mathlib.Core.List.{List, [], ◌∷◌, ◌++◌, flat_map}
-use Rattle.writing.specs.declared.Survey.{Survey}
 use Rattle.rules.specs.Limits.{absent}
 use Rattle.rules.specs.Layouts.{controller_layout}
 use Rattle.rules.specs.Bytes.{bytes_of, written}
+use Rattle.rules.specs.declared.Refusal.{Refusal}
+use Rattle.rules.specs.declared.Reply.{Reply}
+use Rattle.rules.specs.Replies.{success, refusal_reply}
+use Rattle.rules.specs.Writing.{ControllerWritten}
 use Rattle.rules.specs.NextTables.{listing}
-use Rattle.rules.specs.Writing.{bad_place}
 
 -- how many places have a row
 unfoldable pub present : List ℕ → ℕ
 present [] = 0
 present (t ∷ ts) = if eqb t absent then present ts else 1 + present ts
 
-pub record Surveyed (states : ℕ) (places : List ℕ) (s : Survey) : Type 0 where
-  pub rows_are : s.rows ≡ present places
-  pub bad_is : s.bad ≡ bad_place states places
-
--- one place more, place p, which holds the number `to`
-abbrev pub Seen : Survey → ℕ → ℕ → ℕ → Survey → Type 0
-Seen s p to states r = (places : List ℕ) → length places ≡ p → Surveyed states places s → Surveyed states (places ++ to ∷ []) r
+-- a place is bad that is neither 65535 nor a state
+abbrev pub is_bad : ℕ → ℕ → Bool
+is_bad states j = not (eqb j absent || ltb j states)
 
 -- the row of place p, and the rows of the places from p on, written
 abbrev pub row_bytes : ℕ → ℕ → ℕ → ℕ → List ℕ
@@ -41,9 +39,16 @@ pub record Codes (n_u n_v : ℕ) : Type 0 where
   pub few_v : n_v ≤ 4
 
 -- what the writer knows of a table that is not refused
-pub record Writable (n_u n_v states : ℕ) (next : List ℕ) (size rows : ℕ) : Type 0 where
+pub record Writable (n_u n_v states : ℕ) (places : List ℕ) (rows : ℕ) : Type 0 where
   pub codes : Codes n_u n_v
   pub few_states : states ≤ 512
-  pub size_is : size ≡ states * (n_u * n_v)
-  pub long_enough : size ≤ length next
-  pub rows_are : rows ≡ present (take size next)
+  pub size_is : length places ≡ states * (n_u * n_v)
+  pub rows_are : rows ≡ present places
+
+-- how a write ends, as a reply; and what it promises
+abbrev pub outcome_reply : ℕ → Result Unit Refusal → Reply
+outcome_reply states (Ok _) = success states 0
+outcome_reply states (Err r) = refusal_reply r
+
+abbrev pub Outcome : ℕ → ℕ → ℕ → List ℕ → List ℕ → ℕ → Result Unit Refusal → List ℕ → Type 0
+Outcome n_u n_v states next buffer start r buffer' = ControllerWritten n_u n_v states next buffer start (outcome_reply states r) buffer'

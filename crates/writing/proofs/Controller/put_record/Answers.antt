@@ -1,9 +1,8 @@
-use borrow.Author.Rules.{rules}
-use Rattle.writing.proofs.PutLaws.{head_room, head_left, rows_at_most, rows_room, record_out}
-use Rattle.writing.proofs.put_record.Goals as goal
+use Rattle.writing.proofs.PutLaws.{head_room, head_left, rows_room, record_out}
+use Rattle.writing.proofs.Controller.put_record.Goals as goal
 
 pub put_head-requires : goal.put_head-requires
-put_head-requires c = (search head_room, search rows_at_most)
+put_head-requires c = search head_room
 
 pub slice_bounds-put_rows-count : goal.slice_bounds-put_rows-count
 slice_bounds-put_rows-count c = search head_left
@@ -12,7 +11,7 @@ pub slice_bounds-put_rows-start : goal.slice_bounds-put_rows-start
 slice_bounds-put_rows-start c = search head_left
 
 pub put_rows-requires : goal.put_rows-requires
-put_rows-requires c = record { codes = search rules; room = (search rules, search rows_room) }
+put_rows-requires c = search rows_room
 
 pub returns : goal.returns
 returns c = search record_out

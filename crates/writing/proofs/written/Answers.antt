@@ -1,7 +1,6 @@
-use borrow.Author.Rules.{rules}
-use Rattle.writing.proofs.WriteLaws.{steps_fit, size_fits, size_fits_wide, size_few, row_bytes_fit, bytes_fit, bad_fits, is_writable}
+use Rattle.writing.proofs.WriteLaws.{steps_fit, size_fits, size_fits_wide, row_bytes_fit, bytes_fit, bad_fits, is_writable}
 use Rattle.writing.proofs.WriteLaws.{limits_refused, table_refused, start_refused, room_refused, place_refused, record_room, record_written}
-use Rattle.writing.proofs.write_controller.Goals as goal
+use Rattle.writing.proofs.written.Goals as goal
 
 pub returns-then-not-is_in_limits : goal.returns-then-not-is_in_limits
 returns-then-not-is_in_limits c = search limits_refused
@@ -18,9 +17,6 @@ overflow_cast-size c = record { fits = search size_fits_wide }
 pub returns-then-next-size : goal.returns-then-next-size
 returns-then-next-size c = search table_refused
 
-pub survey_of-s-requires : goal.survey_of-s-requires
-survey_of-s-requires c = (search rules, search size_few)
-
 pub returns-then-out-start : goal.returns-then-out-start
 returns-then-out-start c = search start_refused
 
@@ -33,14 +29,17 @@ overflow_add-rows c = record { fits = search bytes_fit }
 pub returns-then-out-start-2 : goal.returns-then-out-start-2
 returns-then-out-start-2 c = search room_refused
 
-pub overflow_cast-bad : goal.overflow_cast-bad
-overflow_cast-bad c = record { fits = search bad_fits }
+pub overflow_cast-result : goal.overflow_cast-result
+overflow_cast-result c = record { fits = search bad_fits }
 
-pub returns-then-bad-size : goal.returns-then-bad-size
-returns-then-bad-size c = search place_refused
+pub returns-in-Some : goal.returns-in-Some
+returns-in-Some c = search place_refused
+
+pub invariant_of-controller : goal.invariant_of-controller
+invariant_of-controller c = record { writable = search is_writable }
 
 pub put_record-requires : goal.put_record-requires
-put_record-requires c = record { writable = search is_writable; room = search (record_room, c.survey_of-s.ensures, c.if-out-start-2.false) }
+put_record-requires c = search record_room
 
 pub returns : goal.returns
 returns c = search record_written
