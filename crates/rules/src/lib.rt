@@ -25,7 +25,7 @@ pub const SET_NUMBERS: usize = 512;
 
 pub const ABSENT: u16 = 65535;
 
-// Every reply of the product. For C: five numbers of 32 bits.
+// Every reply of the product. For C: five numbers of 32 bits, so no Result (C interface).
 #[repr(C)]
 #[derive(Clone, Copy)]
 pub struct Reply {
@@ -67,7 +67,7 @@ pub enum Refusal {
     Mode,
 }
 
-// The counts of a record that was read; 0 where its kind has no such count.
+// The counts of a record that was read; 0 where its kind has no such count (what may not change: `CountsRead`, which `record_counts` ensures).
 #[derive(Clone, Copy)]
 pub struct Counts {
     pub i: u32,
@@ -109,7 +109,7 @@ pub fn succeeded(states: u32, rounds: u32) -> Reply
     }
 }
 
-// A refusal: its number, the record that it is given for or 0, and the row.
+// A refusal: its number, the record that it is given for or 0, and the row (what may not change: `RefusedAt` and `Refused`, for every number).
 pub fn refused_at(number: u32, of: u32, row: u32) -> Reply
     ensures { RefusedAt number of row result }
 {
