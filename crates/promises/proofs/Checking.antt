@@ -1,5 +1,6 @@
 -- What the check replies keeps what is promised of it: each verdict, by its whole reply, says of the controller's words what the theory says.
 -- Assumes nothing.
+use Rattle.std.specs.Prelude.{Ok, Err}
 use mathlib.Core.Path.{◌≡◌, sym, ap, ◌∙◌}
 use mathlib.Core.Logic.Iff
 use mathlib.Core.Logic.{◌↔◌, ⊎_map}
@@ -9,9 +10,8 @@ use native.Mathlib.Omega.{arith}
 use Rattle.rules.specs.declared.Reply.{Reply}
 use Rattle.rules.specs.Counts.{controller_counts}
 use Rattle.rules.specs.Replies.{refusal}
-use Rattle.verdicts.specs.declared.Verdict.{Verdict}
-use Rattle.verdicts.specs.declared.Verdict.TheVariants.{Incomplete, Leaves, Blocks, Fits}
-use Rattle.verdicts.specs.Verdict.{verdict_reply}
+use Rattle.verdicts.specs.declared.Misfit.TheVariants.{Incomplete, Leaves, Blocks}
+use Rattle.verdicts.specs.Verdict.{Verdict, verdict_reply}
 use Rattle.verdicts.specs.Check.{Checked}
 use Rattle.verdicts.specs.Checkable.{Checkable}
 use Rattle.verdicts.proofs.Checked.{check_fits, check_incomplete, check_leaves, check_blocks, check_numbers, check_success, check_refusal_lem, check_pairs, check_zeros, check_good}
@@ -32,20 +32,20 @@ module _ (context specification controller sets : List ℕ) (reply : Reply) (set
     says v = (ap (λ r. r.number), whole v)
       where
         whole : (v : Verdict) → reply.number ≡ (verdict_reply states v).number → reply ≡ verdict_reply states v
-        whole Incomplete = refused 14 (λ e. omega arith)
-        whole Leaves = refused 15 (λ e. omega arith)
-        whole Blocks = refused 16 (λ e. omega arith)
-        whole Fits = check_success done can
+        whole (Err Incomplete) = refused 14 (λ e. omega arith)
+        whole (Err Leaves) = refused 15 (λ e. omega arith)
+        whole (Err Blocks) = refused 16 (λ e. omega arith)
+        whole (Ok tt) = check_success done can
 
     verdict_kept : IsVerdict context specification controller sets reply sets'
     verdict_kept = record {
-      one_of_four = ⊎_map (says Fits).1 (⊎_map (says Incomplete).1 (⊎_map (says Leaves).1 (says Blocks).1)) (check_numbers done can);
-      fits = Iff.trans (says Fits) (check_fits done can);
-      incomplete = Iff.trans (says Incomplete) (check_incomplete done can);
-      leaves = Iff.trans (says Leaves) (check_leaves done can);
-      blocks = Iff.trans (says Blocks) (check_blocks done can);
-      pairs = λ n. check_pairs done can (λ e. n ((says Incomplete).1 e));
-      zeros = λ e. check_zeros done can ((says Incomplete).0 e);
+      one_of_four = ⊎_map (says (Ok tt)).1 (⊎_map (says (Err Incomplete)).1 (⊎_map (says (Err Leaves)).1 (says (Err Blocks)).1)) (check_numbers done can);
+      fits = Iff.trans (says (Ok tt)) (check_fits done can);
+      incomplete = Iff.trans (says (Err Incomplete)) (check_incomplete done can);
+      leaves = Iff.trans (says (Err Leaves)) (check_leaves done can);
+      blocks = Iff.trans (says (Err Blocks)) (check_blocks done can);
+      pairs = λ n. check_pairs done can (λ e. n ((says (Err Incomplete)).1 e));
+      zeros = λ e. check_zeros done can ((says (Err Incomplete)).0 e);
     }
 
   pub checking_keeps : OfChecking context specification controller sets reply sets'

@@ -1,6 +1,7 @@
 -- The promises about solving, writing, reading and the check together have premises that can be met: K1's answer is checked and lies inside what solving
 -- answers; K5's is written, checked and read back; K1's is read and written again.
 -- Assumes nothing.
+use Rattle.std.specs.Prelude.{Ok}
 use mathlib.Core.Path.{◌≡◌, refl, ap}
 use mathlib.Core.Logic.{inl}
 use mathlib.Core.List.{List, [], ◌∷◌, flat_map}
@@ -23,7 +24,6 @@ use Rattle.rules.specs.Writing.{places, controller_bytes, WriteOutcome, write_co
 use Rattle.rules.specs.RoundTrips.{ReadBack, WrittenBack, Bytes}
 use Rattle.rules.specs.Skids.{controller_record, k1, k5}
 use Rattle.answers.specs.Skids.{computed}
-use Rattle.verdicts.specs.declared.Verdict.TheVariants.{Fits}
 use Rattle.verdicts.specs.Verdict.{verdict_reply}
 use Rattle.verdicts.specs.Check.{CheckOutcome, check}
 use Rattle.verdicts.specs.Checkable.{Checkable, skid_system, ControllerWords}
@@ -105,7 +105,7 @@ unfolding computed k5 lent_sets lent_next buffer controller_layout bytes_of writ
 k5_room = omega arith
 
 -- it is written, and checked it fits
-k5_fits : (k5_written.reply ≡ success states 0) × ((check k5.context k5.specification k5_record lent_sets).reply ≡ verdict_reply states Fits)
+k5_fits : (k5_written.reply ≡ success states 0) × ((check k5.context k5.specification k5_record lent_sets).reply ≡ verdict_reply states (Ok tt))
 k5_fits =
     let (done, fits) = kept.solved_fits 1 k5.context k5.specification lent_sets lent_next (outcome k5 1).reply (outcome k5 1).sets (outcome k5 1).next (defined k5 1) refl
     (ap (λ r. r.number) k5_unblocked_reply) buffer 3 k5_written.reply k5_written.buffer (record { reply_is = refl; buffer_is = refl }) k5_room in (

@@ -29,7 +29,6 @@ use Rattle.rules.specs.Meaning.{TableWords}
 use Rattle.rules.proofs.Sound.{count_within}
 use Rattle.rules.proofs.Writes.{no_bad, writes}
 use Rattle.rules.proofs.Written.{write_sound, write_counts, write_table, write_not_refused, written_there}
-use Rattle.verdicts.specs.declared.Verdict.TheVariants.{Fits}
 use Rattle.verdicts.specs.Verdict.{verdict_reply}
 use Rattle.verdicts.specs.Check.{Checked}
 use Rattle.verdicts.specs.Checkable.{Checkable, skid_system, ControllerWords}
@@ -121,7 +120,7 @@ module _ (context specification sets next : List ℕ) (states : ℕ) (sets' next
     }
 
     fits : (lent : List ℕ) (verdict : Reply) (lent' : List ℕ) → set_numbers ≤ length lent → Checked context specification bytes lent verdict lent'
-        → verdict ≡ verdict_reply states Fits
+        → verdict ≡ verdict_reply states (Ok tt)
     fits lent verdict lent' wide checked =
         let can = checkable lent wide in
         check_success checked can ((check_fits checked can).1 good_written)
@@ -133,7 +132,7 @@ module _ (context specification sets next : List ℕ) (states : ℕ) (sets' next
       → let size : ℕ = length (controller_bytes (context_counts context).u (context_counts context).v states next') in start + size ≤ length buffer
       → (written ≡ success states 0)
       × ((lent : List ℕ) (verdict : Reply) (lent' : List ℕ) → set_numbers ≤ length lent → Checked context specification (take size (drop start buffer')) lent verdict lent'
-      → verdict ≡ verdict_reply states Fits)
+      → verdict ≡ verdict_reply states (Ok tt))
   written_fits buffer start written buffer' done room = (
     written_success buffer start written buffer' done room,
     λ lent verdict lent' wide checked.

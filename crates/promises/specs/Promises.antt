@@ -2,7 +2,7 @@
 -- `ControllerWritten`: writing::write_controller, `ControllerRead`: records::readers::read_controller) and beside it facts about the input alone. It is kept by
 -- `kept` in proofs/Promises.antt.
 -- Assumes nothing.
-use Rattle.std.specs.Prelude.{◌≡◌, ◌↔◌, ◌⊎◌, List, ℕ, ◌+◌, ◌≤◌, length, take, drop, Some, Err}
+use Rattle.std.specs.Prelude.{◌≡◌, ◌↔◌, ◌⊎◌, List, ℕ, ◌+◌, ◌≤◌, length, take, drop, Some, Err, Ok}
 use Rattle.words.specs.Words.{Words, ◌⊆◌}
 use Rattle.words.specs.System.{Letter, Good}
 use Rattle.rules.specs.declared.Reply.{Reply}
@@ -12,7 +12,6 @@ use Rattle.rules.specs.Replies.{success}
 use Rattle.rules.specs.Reading.{Reading, reading_reply, reading_counts, ControllerRead}
 use Rattle.rules.specs.Writing.{places, controller_bytes, ControllerWritten}
 use Rattle.rules.specs.RoundTrips.{ReadBack, WrittenBack, Bytes}
-use Rattle.verdicts.specs.declared.Verdict.TheVariants.{Fits}
 use Rattle.verdicts.specs.Verdict.{verdict_reply}
 use Rattle.verdicts.specs.Check.{Checked}
 use Rattle.verdicts.specs.Checkable.{Checkable, skid_system, ControllerWords}
@@ -72,7 +71,7 @@ pub record Promises : Type 1 where
       → let size : ℕ = length (controller_bytes (context_counts context).u (context_counts context).v reply.states next') in start + size ≤ length buffer
       → (written ≡ success reply.states 0)
       × ((lent : List ℕ) (verdict : Reply) (lent' : List ℕ) → set_numbers ≤ length lent → Checked context specification (take size (drop start buffer')) lent verdict lent'
-      → verdict ≡ verdict_reply reply.states Fits)
+      → verdict ≡ verdict_reply reply.states (Ok tt))
   -- a controller record that fits lies inside what mode 1 answers, where it answers; and it does answer with a table then
   pub fits_inside : (mode : ℕ) (context specification sets next : List ℕ) (reply : Reply) (sets' next' : List ℕ)
       → Solved mode context specification sets next reply sets' next' → mode_of mode ≡ Some Unblocked

@@ -5,8 +5,7 @@ use mathlib.Core.List.{List}
 use Prim.Native.Nat.{ℕ}
 use Rattle.pairs.proofs.Determined.{determined}
 use Rattle.rules.specs.declared.Reply.{Reply}
-use Rattle.verdicts.specs.declared.Verdict.{Verdict}
-use Rattle.verdicts.specs.Verdict.{Replied}
+use Rattle.verdicts.specs.Verdict.{Verdict, Replied}
 use Rattle.verdicts.specs.Check.{Checked}
 
 pub replied_determined : (states : ℕ) (v : Verdict) (r s : Reply) → Replied states v r → Replied states v s → r ≡ s

@@ -2,11 +2,13 @@
 // lent numbers at the end. No code: the check itself is in crate `fit`.
 #![tactic(auto)]
 
-// What the check finds of a table that was read, in the order in which it is asked.
+// Why a controller does not fit, in the order in which it is asked.
 #[derive(Clone, Copy)]
-pub enum Verdict {
+pub enum Misfit {
     Incomplete,
     Leaves,
     Blocks,
-    Fits,
 }
+
+// What the check finds of a table that was read: it fits, or why not.
+pub type Verdict = Result<(), Misfit>;
