@@ -21,9 +21,8 @@ use Rattle.rules.specs.Matching.{outside_agree, letters_agree, product_fits}
 use Rattle.rules.specs.Reading.{ControllerRead}
 use Rattle.rules.proofs.ReadsFine.{read_next}
 use Rattle.rules.proofs.NotRefused.{or_else_fine, unless_fine}
-use Rattle.verdicts.specs.declared.Verdict.{Verdict}
 use Rattle.verdicts.specs.Triples.{triples}
-use Rattle.verdicts.specs.Verdict.{verdict_reply}
+use Rattle.verdicts.specs.Verdict.{Verdict, verdict_reply}
 use Rattle.verdicts.specs.Check.{sets_named, judge, Checked}
 use Rattle.verdicts.specs.Checkable.{Checkable}
 use Rattle.verdicts.proofs.Checkable.{judged}

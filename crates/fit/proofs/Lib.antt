@@ -1,4 +1,3 @@
-pub mod Replied
 pub mod Determined
 pub mod EntryLaws
 pub mod FrontierLaws

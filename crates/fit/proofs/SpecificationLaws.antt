@@ -5,7 +5,7 @@ use mathlib.Core.List.{List}
 use Prim.Native.Nat.{ℕ, ◌*◌}
 use lib.ListN.{length, take}
 use Rattle.rules.specs.Tables.{specification_table, SpecificationFilled}
-use Rattle.verdicts.specs.declared.Verdict.{Verdict}
+use Rattle.verdicts.specs.Verdict.{Verdict}
 use Rattle.tables.specs.declared.Sizes.{Sizes}
 use Rattle.tables.specs.Inside.{Few}
 use Rattle.tables.proofs.SpecificationLaws.{lent_has, lent_had}

@@ -19,7 +19,7 @@ mod verdict; // the core: the verdict, of a skid and a next table
 ghost use Rattle.verdicts.specs.Verdict.{Replied};
 
 use rules::Reply;
-use verdicts::Verdict;
+use verdicts::{Misfit, Verdict};
 
 // The reply to reading a controller, and its U and V. For C: seven numbers of 32 bits.
 #[repr(C)]
@@ -39,9 +39,9 @@ pub fn verdict_reply(verdict: Verdict, states: u32) -> Reply
     ensures { Replied states verdict result }
 {
     match verdict {
-        Verdict::Incomplete => rules::refused(14, 0),
-        Verdict::Leaves => rules::refused(15, 0),
-        Verdict::Blocks => rules::refused(16, 0),
-        Verdict::Fits => rules::succeeded(states, 0),
+        Err(Misfit::Incomplete) => rules::refused(14, 0),
+        Err(Misfit::Leaves) => rules::refused(15, 0),
+        Err(Misfit::Blocks) => rules::refused(16, 0),
+        Ok(()) => rules::succeeded(states, 0),
     }
 }
