@@ -1,5 +1,7 @@
 pub mod ZeroLaws
 pub mod StepLaws
+pub mod DiscoveryLaws
+pub mod DiscoveryLoops
 pub mod FirstRowLaws
 pub mod IndexLaws
 pub mod ReadyLaws

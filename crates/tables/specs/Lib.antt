@@ -1,4 +1,5 @@
 pub mod Inside
+pub mod Discovery
 pub mod Props
 pub mod Ready
 pub mod Skids

@@ -2,6 +2,7 @@
 // zeros behind what was written.
 #![tactic(auto)]
 
+pub mod discovery; // the states that a next table reaches, numbered by first discovery
 pub mod rows; // rows of the context: the specification's step by a row, and which rows a state has
 pub mod skids; // the two records of a skid, and their counts side by side
 pub mod steps; // a next table, by state and letter
