@@ -8,11 +8,6 @@ pub mod SweepLaws
 pub mod BoundLaws
 pub mod SetsLaws
 pub mod CompleteLaws
-pub mod MeetLaws
-pub mod LetterLaws
-pub mod ScannedLaws
-pub mod OwnLaws
-pub mod MarkLaws
 pub mod Incomplete
 pub mod GrowLaws
 pub mod ReachLaws
