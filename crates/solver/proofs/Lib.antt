@@ -16,8 +16,7 @@ pub mod TakeOutAllLaws
 pub mod RoundLaws
 pub mod ClearedTestLaws
 pub mod DeleteLaws
-pub mod NumberLaws
-pub mod FreshLaws
+pub mod PutTableLaws
 pub mod PutSetsLaws
 pub mod AfreshLaws
 pub mod UnblockLaws
