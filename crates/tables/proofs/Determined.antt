@@ -4,7 +4,7 @@ use mathlib.Core.Path.{◌≡◌}
 use mathlib.Core.Bool.{Bool}
 use mathlib.Core.List.{List}
 use Prim.Native.Nat.{ℕ}
-use Rattle.std.specs.Prelude.{Option}
+use Rattle.std.specs.Prelude.{Option, Result}
 use Rattle.pairs.specs.declared.CtxState.{CtxState}
 use Rattle.pairs.specs.declared.SpecState.{SpecState}
 use Rattle.pairs.proofs.Determined.{determined}
@@ -13,17 +13,27 @@ use Rattle.rules.specs.declared.ContextRow.{ContextRow}
 use Rattle.rules.specs.declared.StateRows.{StateRows}
 use Rattle.tables.specs.declared.Sizes.{Sizes}
 use Rattle.tables.specs.declared.ready.ReadySkid.{ReadySkid}
-use Rattle.tables.specs.declared.skids.SkidReading.{SkidReading}
+use Rattle.tables.specs.declared.skids.SkidCounts.{SkidCounts}
+use Rattle.rules.specs.declared.Refusal.{Refusal}
 use Rattle.tables.specs.Ready.{RowsRead, SpecificationStepped, AnsweringAll, ContinuingFrom}
-use Rattle.tables.specs.Skids.{RecordsRead, SidedBy}
+use Rattle.tables.specs.Skids.{RecordsRead, SidedBy, OutsideMatched, PairsFew, RoomFound}
 use Rattle.tables.specs.Steps.{NextRead, SpecificationNextRead, ControllerNextRead}
 use Rattle.tables.specs.Usable.{Answering, Continuing}
 
-pub records_read_determined : (context specification : List ℕ) (r s : SkidReading) → RecordsRead context specification r → RecordsRead context specification s → r ≡ s
+pub records_read_determined : (context specification : List ℕ) (r s : Result SkidCounts Refusal) → RecordsRead context specification r → RecordsRead context specification s → r ≡ s
 records_read_determined context specification r s = determined
 
 pub sided_determined : (c s : Counts) (states : ℕ) (y z : Sizes) → SidedBy c s states y → SidedBy c s states z → y ≡ z
 sided_determined c s states y z = determined
+
+pub outside_matched_determined : (k : SkidCounts) (r s : Result Unit Refusal) → OutsideMatched k r → OutsideMatched k s → r ≡ s
+outside_matched_determined k r s = determined
+
+pub pairs_few_determined : (k : SkidCounts) (r s : Result Unit Refusal) → PairsFew k r → PairsFew k s → r ≡ s
+pairs_few_determined k r s = determined
+
+pub room_found_determined : (lent needed : ℕ) (r s : Result Unit Refusal) → RoomFound lent needed r → RoomFound lent needed s → r ≡ s
+room_found_determined lent needed r s = determined
 
 pub next_read_determined : (width : ℕ) (table : List ℕ) (s t r q : ℕ) → NextRead width table s t r → NextRead width table s t q → r ≡ q
 next_read_determined width table s t r q = determined

@@ -11,8 +11,8 @@ pub mod JointLaws
 pub mod LowestLaws
 pub mod RestLaws
 pub mod RowScanLaws
-pub mod ReadingLaws
 pub mod SkidReadLaws
+pub mod SkidMatchLaws
 pub mod SkidLaws
 pub mod SpecificationLaws
 pub mod ReplyLaws

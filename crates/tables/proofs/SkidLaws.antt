@@ -8,7 +8,6 @@ use native.Mathlib.Omega.{arith}
 use lib.ListN.{length}
 use borrow.Author.Tests.{leb-true}
 use Rattle.pairs.specs.Sets.{pair_limit}
-use Rattle.rules.specs.declared.Counts.{Counts}
 use Rattle.rules.specs.Layouts.{context_layout, specification_layout}
 use Rattle.rules.specs.Records.{rows_in}
 use Rattle.rules.specs.Counts.{context_counts, specification_counts}
@@ -19,6 +18,7 @@ use Rattle.rules.proofs.Legal.{legal_skid}
 use Rattle.rules.proofs.NextTables.{table_length}
 use Rattle.rules.proofs.Read.{agreeing}
 use Rattle.tables.specs.declared.Sizes.{Sizes}
+use Rattle.tables.specs.declared.skids.SkidCounts.{SkidCounts}
 use Rattle.tables.specs.Inside.{skid_in, Few, Workable}
 use Rattle.tables.specs.Skids.{sizes_of, SkidRead}
 
@@ -32,9 +32,9 @@ module _ (context specification : List ℕ) (states : ℕ) where
   unfolding skid_of
   skid_is = refl
 
-  module _ (c s : Counts) (skid : SkidRead context specification c s) where
-    pub sizes_are : (z : Sizes) → z ≡ sizes_of c s states → z ≡ sizes_read
-    sizes_are z e = e ∙ rw (skid.context_counts_lem, skid.specification_counts_lem)
+  module _ (k : SkidCounts) (skid : SkidRead context specification k) where
+    pub sizes_are : (z : Sizes) → z ≡ sizes_of k.context k.specification states → z ≡ sizes_read
+    sizes_are z e = e ∙ rw skid.counts_are
 
     module _ (few : states ≤ 512) (fits : product_fits context specification ≡ true) where
       few_sizes : Few sizes_read

@@ -1,102 +1,97 @@
--- The two records of a skid, one after the other: the first that is refused gives the reply; where none is, both are without fault and the counts are theirs.
+-- The two records of a skid, one after the other: the first that is refused gives the refusal; where none is, both are without fault and the counts are theirs.
 -- Assumes nothing.
+use Rattle.std.specs.Prelude.{Result, Ok, Err}
 use mathlib.Core.Path.{◌≡◌, refl, sym, ap, ◌∙◌}
-use mathlib.Core.Logic.{◌≢◌}
-use mathlib.Core.Bool.{Bool, true, false, not}
+use mathlib.Core.Bool.{false}
 use mathlib.Core.List.{List}
 use Prim.Native.Nat.{ℕ}
-use lib.Dec.{eqb}
-use borrow.Author.Tests.{ne_eqb}
-use Rattle.rules.specs.declared.Reply.{Reply}
 use Rattle.rules.specs.declared.Counts.{Counts}
-use Rattle.rules.specs.declared.Reading.{Reading}
+use Rattle.rules.specs.declared.Fault.{Fault}
+use Rattle.rules.specs.declared.Refusal.{Refusal}
+use Rattle.rules.specs.declared.Refusal.TheVariants.{Record}
 use Rattle.rules.specs.declared.Kind.TheVariants.{Context, Specification}
 use Rattle.rules.specs.Layouts.{context_layout, specification_layout}
-use Rattle.rules.specs.Counts.{context_counts, specification_counts, no_counts}
-use Rattle.rules.specs.Faults.{fault}
-use Rattle.rules.specs.Replies.{fine, refuses, ◌or_else◌, fault_reply, record_refusal}
+use Rattle.rules.specs.Counts.{context_counts, specification_counts}
+use Rattle.rules.specs.Faults.{Finding, fault}
+use Rattle.rules.specs.Replies.{fine, refuses, ◌or_else◌, fault_reply, record_refusal, refusal_reply}
 use Rattle.rules.specs.Matching.{skid_refusal}
-use Rattle.rules.specs.Reading.{read_record}
-use Rattle.rules.proofs.ReadsFine.{no_fault}
-use Rattle.rules.proofs.NotRefused.{or_else_fine}
-use Rattle.tables.specs.declared.skids.SkidReading.{SkidReading}
-use Rattle.tables.specs.Skids.{skid_reading, SkidRead}
-use Rattle.tables.proofs.ReadingLaws.{record_refused, record_fine, record_counts}
+use Rattle.rules.specs.Reading.{Reading, read_unless, read_record}
+use Rattle.rules.proofs.Replied.{fault_some}
+use Rattle.tables.specs.declared.skids.SkidCounts.{SkidCounts}
+use Rattle.tables.specs.Skids.{both_read, skid_reading, skid_counts, outcome_reply, SkidRead}
 
-pub bad_refuses : (r : Reply) → r.number ≢ 0 → refuses r ≡ true
-bad_refuses r bad = ap not (ne_eqb r.number 0 bad)
+none_after : (r : Refusal) (s : Reading) → both_read (Err r) s ≡ Err r
+unfolding both_read
+none_after r (Ok s) = refl
+none_after r (Err s) = refl
 
 module _ (context specification : List ℕ) where
-  -- what is read, by the refusal of both
-  reading_refused : (r : Reply) → r.number ≢ 0 → skid_refusal context specification ≡ r
-      → skid_reading context specification ≡ record { reply = r; context = no_counts; specification = no_counts }
+  -- ---- as the code reads them
+  pub context_refused : (r : Refusal) → Err r ≡ read_record Context context → Err r ≡ skid_reading context specification
   unfolding skid_reading
-  reading_refused r bad e = rw (e, bad_refuses r bad)
+  context_refused r e = sym (rw (← e) (none_after r (read_record Specification specification)))
 
-  reading_fine : refuses (skid_refusal context specification) ≡ false
-      → skid_reading context specification ≡ record { reply = fine; context = context_counts context; specification = specification_counts specification }
-  unfolding skid_reading
-  reading_fine e = rw e
+  module _ (c : Counts) (legal : Ok c ≡ read_record Context context) where
+    pub specification_refused : (r : Refusal) → Err r ≡ read_record Specification specification → Err r ≡ skid_reading context specification
+    unfolding skid_reading both_read
+    specification_refused r e = rw (← legal, ← e)
 
-  module _ (first : Reading) (first_is : first ≡ read_record Context context) where
-    pub context_refused : first.reply.number ≢ 0
-        → record { reply = first.reply; context = first.counts; specification = first.counts } ≡ skid_reading context specification
-    unfolding skid_refusal ◌or_else◌
-    context_refused bad =
-        let e = record_refused Context context first first_is bad in
-        let same = ap (λ r. r.reply) e in
-        ap (λ r. record { reply = first.reply; context = r.counts; specification = r.counts }) e
-        ∙ sym (reading_refused first.reply bad (rw (← same, bad_refuses first.reply bad)))
+    pub both_legal : (s : Counts) → Ok s ≡ read_record Specification specification → Ok (record { context = c; specification = s }) ≡ skid_reading context specification
+    unfolding skid_reading both_read
+    both_legal s e = rw (← legal, ← e)
 
-    module _ (legal : first.reply.number ≡ 0) (second : Reading) (second_is : second ≡ read_record Specification specification) where
-      pub specification_refused : second.reply.number ≢ 0
-          → record { reply = second.reply; context = second.counts; specification = second.counts } ≡ skid_reading context specification
-      unfolding skid_refusal ◌or_else◌
-      specification_refused bad =
-          let e = record_refused Specification specification second second_is bad in
-          let same = ap (λ r. r.reply) e in
-          ap (λ r. record { reply = second.reply; context = r.counts; specification = r.counts }) e
-          ∙ sym (reading_refused second.reply bad (rw (record_fine Context context first first_is legal, ← same)))
+  -- ---- by what is found in each
+  abbrev reading_of : Finding → Finding → Result SkidCounts Refusal
+  reading_of f g = both_read (read_unless Context f (context_counts context)) (read_unless Specification g (specification_counts specification))
 
-      pub both_read : second.reply.number ≡ 0 → (r : Reply) → r ≡ fine
-          → record { reply = r; context = first.counts; specification = second.counts } ≡ skid_reading context specification
-      unfolding skid_refusal ◌or_else◌
-      both_read sound r e =
-          rw (e, record_counts Context context first first_is legal, record_counts Specification specification second second_is sound)
-          (sym (reading_fine (rw (record_fine Context context first first_is legal) (record_fine Specification specification second second_is sound))))
+  reading_legal : reading_of (Ok tt) (Ok tt) ≡ Ok (skid_counts context specification)
+  unfolding both_read read_unless
+  reading_legal = refl
 
-  -- ---- what the reading of both says
-  module _ (read : SkidReading) (read_is : read ≡ skid_reading context specification) where
-    pub skid_refused : read.reply.number ≢ 0 → read.reply ≡ skid_refusal context specification
-    unfolding skid_reading
-    skid_refused bad = go (refuses (skid_refusal context specification)) refl
-      where
-        go : (b : Bool) → refuses (skid_refusal context specification) ≡ b → read.reply ≡ skid_refusal context specification
-        go true e = ap (λ r. r.reply) read_is ∙ rw e
-        go false e = absurd (bad (ap (λ r. r.reply.number) read_is ∙ rw e))
+  reading_late : (g : Fault) → reading_of (Ok tt) (Err g) ≡ Err (Record Specification g)
+  unfolding both_read read_unless
+  reading_late g = refl
 
-    not_refused : read.reply.number ≡ 0 → refuses (skid_refusal context specification) ≡ false
-    unfolding skid_reading
-    not_refused legal = go (refuses (skid_refusal context specification)) refl
-      where
-        go : (b : Bool) → refuses (skid_refusal context specification) ≡ b → refuses (skid_refusal context specification) ≡ false
-        go true e = let same : read.reply ≡ skid_refusal context specification = ap (λ r. r.reply) read_is ∙ rw e in ap refuses (sym same) ∙ ap (λ n. not (eqb n 0)) legal
-        go false e = e
+  reading_early : (f : Fault) (g : Finding) → reading_of (Err f) g ≡ Err (Record Context f)
+  unfolding both_read read_unless
+  reading_early f (Ok u) = refl
+  reading_early f (Err g) = refl
 
-    pub skid_read : read.reply.number ≡ 0 → SkidRead context specification read.context read.specification
-    unfolding skid_refusal record_refusal
-    skid_read legal =
-        let told = not_refused legal in
-        let is = read_is ∙ reading_fine told in
-        let (e₁, e₂) = or_else_fine (record_refusal 1 context_layout context) (record_refusal 2 specification_layout specification) told in
-        record {
-          context_sound = no_fault 1 (fault context_layout context) e₁;
-          specification_sound = no_fault 2 (fault specification_layout specification) e₂;
-          context_counts_lem = ap (λ r. r.context) is;
-          specification_counts_lem = ap (λ r. r.specification) is;
-        }
+  reading_is : skid_reading context specification ≡ reading_of (fault context_layout context) (fault specification_layout specification)
+  unfolding skid_reading read_record
+  reading_is = refl
 
-  -- records without fault are not refused
-  pub skid_fine : (c s : Counts) → SkidRead context specification c s → refuses (skid_refusal context specification) ≡ false
+  replied_as : (f g : Finding) → outcome_reply (reading_of f g) ≡ (fault_reply 1 f or_else fault_reply 2 g)
+  unfolding both_read read_unless fault_reply ◌or_else◌
+  replied_as (Ok u) (Ok w) = refl
+  replied_as (Ok u) (Err g) = refl
+  replied_as (Err f) (Ok w) = rw (fault_some f)
+  replied_as (Err f) (Err g) = rw (fault_some f)
+
+  -- ---- as a reply it is the refusal of both; it is a refusal exactly where they are refused, and else their counts
+  pub skid_replied : outcome_reply (skid_reading context specification) ≡ skid_refusal context specification
+  unfolding skid_refusal record_refusal
+  skid_replied = ap outcome_reply reading_is ∙ replied_as (fault context_layout context) (fault specification_layout specification)
+
+  pub skid_refused : (r : Refusal) → Err r ≡ skid_reading context specification → refusal_reply r ≡ skid_refusal context specification
+  skid_refused r e = ap outcome_reply e ∙ skid_replied
+
+  pub skid_read : (k : SkidCounts) → Ok k ≡ skid_reading context specification → SkidRead context specification k
+  skid_read k e = told (fault context_layout context) refl (fault specification_layout specification) refl (e ∙ reading_is)
+    where
+      told : (f : Finding) → fault context_layout context ≡ f → (g : Finding) → fault specification_layout specification ≡ g → Ok k ≡ reading_of f g → SkidRead context specification k
+      told (Ok u) p (Ok w) q h = record { context_sound = p; specification_sound = q; counts_are = let same : Ok k ≡ Ok (skid_counts context specification) = h ∙ reading_legal in cc }
+      told (Ok u) p (Err g) q h = let other : Ok k ≡ Err (Record Specification g) = h ∙ reading_late g in absurd cc
+      told (Err f) p (Ok w) q h = let other : Ok k ≡ Err (Record Context f) = h ∙ reading_early f (Ok w) in absurd cc
+      told (Err f) p (Err g) q h = let other : Ok k ≡ Err (Record Context f) = h ∙ reading_early f (Err g) in absurd cc
+
+  pub skid_fine : (k : SkidCounts) → SkidRead context specification k → refuses (skid_refusal context specification) ≡ false
   unfolding skid_refusal record_refusal fault_reply ◌or_else◌
-  skid_fine c s skid = rw (skid.context_sound, skid.specification_sound)
+  skid_fine k skid = rw (skid.context_sound, skid.specification_sound)
+
+  pub skid_counted : (k : SkidCounts) → SkidRead context specification k → Ok k ≡ skid_reading context specification
+  unfolding skid_reading read_record read_unless both_read
+  skid_counted k skid = rw (skid.context_sound, skid.specification_sound, skid.counts_are)
+
+  pub skid_passes : (k : SkidCounts) → SkidRead context specification k → fine ≡ skid_refusal context specification
+  skid_passes k skid = ap outcome_reply (skid_counted k skid) ∙ skid_replied

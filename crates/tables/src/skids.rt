@@ -1,47 +1,61 @@
-// The two records of a skid: read in document 01's order, and their counts side by side.
-ghost use Rattle.tables.specs.Skids.{RecordsRead, SidedBy};
+// The two records of a skid: read in document 01's order, their counts side by side, and refused where they do not match.
+ghost use Rattle.tables.specs.Skids.{RecordsRead, SidedBy, OutsideMatched, PairsFew, RoomFound};
 
 use super::Sizes;
-use records::readers::{read_context, read_specification};
-use rules::{Counts, Reply, succeeded};
+use pairs::PAIR_LIMIT;
+use records::readers::read_record;
+use rules::{Counts, Kind, Refusal};
 
-// A reply, and beside it the counts of both records; all counts 0 on a refusal.
+// The counts of both records.
 #[derive(Clone, Copy)]
-pub struct SkidReading {
-    pub reply: Reply,
+pub struct SkidCounts {
     pub context: Counts,
     pub specification: Counts,
 }
 
-// Refusals 1 to 7 of the context, then of the specification. A record that is refused has no counts, so these stand for both.
-pub fn read_skid(context: &[u8], specification: &[u8]) -> SkidReading
+// Refusals 1 to 7 of the context, then of the specification.
+#[tactic(auto, using(std::proofs::lemmas::Result::err_from_is_err_and, crate::proofs::SkidReadLaws::context_refused, crate::proofs::SkidReadLaws::specification_refused, crate::proofs::SkidReadLaws::both_legal,))]
+pub fn read_skid(context: &[u8], specification: &[u8]) -> Result<SkidCounts, Refusal>
     ensures { RecordsRead context.now specification.now result }
 {
-    let first = read_context(context);
-    let reply = first.reply;
-    let c = first.counts;
-    if reply.number != 0 {
-        return SkidReading {
-            reply: reply,
-            context: c,
-            specification: c,
-        };
-    }
-    let second = read_specification(specification);
-    let answer = second.reply;
-    let s = second.counts;
-    if answer.number != 0 {
-        return SkidReading {
-            reply: answer,
-            context: s,
-            specification: s,
-        };
-    }
-    SkidReading {
-        reply: succeeded(0, 0),
+    let c = read_record(context, Kind::Context)?;
+    let s = read_record(specification, Kind::Specification)?;
+    Ok(SkidCounts {
         context: c,
         specification: s,
+    })
+}
+
+impl SkidCounts {
+    // Refusal 8 of the specification: it has not the inputs and the outputs of the context.
+    pub fn same_outside(&self) -> Result<(), Refusal>
+        ensures { OutsideMatched self.now result }
+    {
+        if self.context.i != self.specification.i || self.context.o != self.specification.o {
+            return Err(Refusal::Codes(Kind::Specification));
+        }
+        Ok(())
     }
+
+    // Refusal 9: there are more pairs of states than a set has places. Of counts of 32 bits the product does not overflow.
+    pub fn few_pairs(&self) -> Result<(), Refusal>
+        ensures { PairsFew self.now result }
+    {
+        if PAIR_LIMIT < self.context.states as u64 * self.specification.states as u64 {
+            return Err(Refusal::Pairs);
+        }
+        Ok(())
+    }
+}
+
+// Refusal 10: fewer numbers are lent than are needed.
+pub fn room(lent: usize, needed: usize) -> Result<(), Refusal>
+    ensures { RoomFound lent needed result }
+{
+    if lent < needed {
+        return Err(Refusal::Room);
+    }
+    Ok(())
 }
 
 // The counts of context and specification, and the states of the table beside them. Of counts of 32 bits no product overflows.
