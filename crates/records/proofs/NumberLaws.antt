@@ -2,6 +2,7 @@
 -- filled number by number.
 -- Assumes nothing.
 use Rattle.std.specs.Prelude.{if◌then◌else◌}
+use Rattle.std.specs.Int.{w16, from_le_bytes}
 use mathlib.Core.Path.{◌≡◌, refl, sym, ap, ◌∙◌}
 use mathlib.Core.Bool.{Bool, true, false, ◌&&◌}
 use mathlib.Core.List.{List, [], ◌∷◌, ◌++◌}
@@ -50,13 +51,13 @@ little_two (x ∷ []) = omega arith
 little_two (x ∷ y ∷ b) = omega arith
 
 module _ (b : List ℕ) (at size low : ℕ) (is_low : low ≡ get_or b at 0) where
-  pub one_byte : 1 ≤ size → size < 2 → low ≡ little size (drop at b)
-  one_byte h k = let e : size ≡ 1 = omega arith in is_low ∙ sym (rw (e, little_one, get_or-drop, add-zero))
+  pub one_byte : (r : ℕ) → 1 ≤ size → size < 2 → r ≡ low → r ≡ little size (drop at b)
+  one_byte r h k e = let one : size ≡ 1 = omega arith in e ∙ is_low ∙ sym (rw (one, little_one, get_or-drop, add-zero))
 
-  pub two_bytes : (high : ℕ) → size ≤ 2 → 2 ≤ size → high ≡ get_or b (at + 1) 0 → low + 256 * high ≡ little size (drop at b)
-  two_bytes high h k is_high =
-      let e : size ≡ 2 = omega arith in
-      sym (rw (e, little_two, get_or-drop at b 0 0, get_or-drop at b 1 0, add-zero, is_low, is_high))
+  pub two_bytes : (high both r : ℕ) → size ≤ 2 → 2 ≤ size → high ≡ get_or b (at + 1) 0 → both ≡ from_le_bytes w16 (low ∷ high ∷ []) → r ≡ both → r ≡ little size (drop at b)
+  two_bytes high both r h k is_high is_both e =
+      let two : size ≡ 2 = omega arith in
+      e ∙ is_both ∙ sym (rw (two, little_two, get_or-drop at b 0 0, get_or-drop at b 1 0, add-zero, is_low, is_high) (omega arith))
 
 -- ---- numbers one after the other
 total_more : (ws : List ℕ) (j : ℕ) → j < length ws → total (take (j + 1) ws) ≡ total (take j ws) + get_or ws j 0

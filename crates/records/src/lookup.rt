@@ -14,10 +14,11 @@ use rules::{ContextRow, Kind, StateRows};
 pub fn context_row(b: &[u8], k: usize) -> ContextRow
     ensures { ContextRowRead b.now k result }
 {
-    let mut row = [0u32; 6];
-    if k < row_count(b, Kind::Context) {
-        row = row_of(b, Kind::Context, k);
-    }
+    let row = if k < row_count(b, Kind::Context) {
+        row_of(b, Kind::Context, k)
+    } else {
+        [0; 6]
+    };
     ContextRow {
         state: CtxState(row[0]),
         i: row[1],
@@ -57,7 +58,7 @@ pub fn state_rows(b: &[u8], state: CtxState, from: usize) -> StateRows
     let a = state.0 as usize;
     let first = first_row(b, a, from);
     StateRows {
-        first: first,
+        first,
         end: first_row(b, a + 1, first),
     }
 }

@@ -3,10 +3,10 @@ ghost use Rattle.std.specs.Prelude.{◌≡◌, ◌+◌, ◌<◌, ◌≤◌, leng
 ghost use Rattle.rules.specs.Bytes.{little, numbers};
 ghost use Rattle.records.specs.Inside.{Sizes, Held};
 
-fn byte_at(b: &[u8], at: usize) -> u32
-    ensures { (result ≡ get_or b.now at 0) × (result < 256) }
+fn byte_at(b: &[u8], at: usize) -> u8
+    ensures { result ≡ get_or b.now at 0 }
 {
-    b.get(at).map_or(0, |x| u32::from(*x))
+    b.get(at).copied().unwrap_or(0)
 }
 
 // The number of one or two bytes at a place.
@@ -16,10 +16,9 @@ pub(crate) fn number_at(b: &[u8], at: usize, size: usize) -> u32
 {
     let low = byte_at(b, at);
     if size < 2 {
-        return low;
+        return u32::from(low);
     }
-    let high = byte_at(b, at + 1);
-    low + 256 * high
+    u32::from(u16::from_le_bytes([low, byte_at(b, at + 1)]))
 }
 
 // Numbers of the given sizes, one after the other, from a place on; zeros after them.

@@ -72,7 +72,7 @@ pub(crate) fn fill_table(
 pub fn zero_after(next: &mut [u16], size: usize)
     ensures { NextZeroed next.old size next.new }
 {
-    if NEXT_NUMBERS <= next.len() && size <= NEXT_NUMBERS {
+    if size <= NEXT_NUMBERS && NEXT_NUMBERS <= next.len() {
         next[size..NEXT_NUMBERS].fill(0);
     }
 }

@@ -1,12 +1,8 @@
-use native.Mathlib.Omega.{arith}
 use Rattle.records.proofs.NumberLaws.{read_none, size_some, size_few, place_near, next_fits, read_more, read_all}
 use Rattle.records.proofs.numbers.numbers_at.Goals as goal
 
 pub loop-j-init : goal.loop-j-init
 loop-j-init c = search read_none
-
-pub overflow_cast-size : goal.overflow_cast-size
-overflow_cast-size c = omega (arith, c.shared_slice_known-in-loop-j-1.given c.loop-j.j)
 
 pub number_at-requires : goal.number_at-requires
 number_at-requires c = (search size_some, search size_few, search place_near)
