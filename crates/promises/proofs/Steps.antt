@@ -9,7 +9,7 @@ use mathlib.Core.Option.{Option, none, some, some-ne-none, some-injective}
 use mathlib.Core.List.{List, foldl, Memᴰ}
 use Prim.Native.Nat.{ℕ, ◌<◌}
 use lib.Dec.{T, eqb, eqb→eq}
-use mir.Facts.{and_yes, yes_and}
+use mir.Facts.{yes_eqb, and_yes, yes_and}
 use Rattle.words.specs.System.{Letter, letter}
 use Rattle.words.specs.Sets.{Leaves, Reached, StepLaw}
 use Rattle.words.proofs.Words.{known, is_some}
@@ -21,7 +21,6 @@ use Rattle.rules.proofs.Rows.{step_row, spec_below, action, row_context}
 use Rattle.rules.proofs.Places.{pair_listed, at_pair}
 use Rattle.rules.proofs.Letters.{letter_same}
 use Rattle.verdicts.proofs.Adds.{Some}
-use Rattle.verdicts.proofs.Rows.{same_yes}
 use Rattle.answers.specs.Plain.{reached, by_row, by_pair, after}
 use Rattle.promises.proofs.Folds.{Outcome, fold_stopped, fold_law}
 
@@ -122,7 +121,7 @@ module _ (k : Skid) (asked : ℕ → ℕ → Bool) (legal : Legal k) (s : ℕ) (
         row = r;
         is_row = m;
         met = yes_and (eqb (row_state r) (context_of k.n_c (pair_place k.n_c a c))) (eqb (row_letter k r) t)
-            (same_yes (y.same_state ∙ sym (pair_context k.n_c a c hc))) (same_yes {m = row_letter k r} {n = t} (rw (y.same_u, y.same_v) (ap (letter_of k asked) over)));
+            (yes_eqb (y.same_state ∙ sym (pair_context k.n_c a c hc))) (yes_eqb {a = row_letter k r} {b = t} (rw (y.same_u, y.same_v) (ap (letter_of k asked) over)));
         to = to;
         by = rw (pair_specification k.n_c a c hc, y.same_i, y.same_o);
       }

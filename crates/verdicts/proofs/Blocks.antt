@@ -8,7 +8,7 @@ use mathlib.Core.Bool.{Bool, true, false, not, ◌&&◌}
 use mathlib.Core.List.{List}
 use Prim.Native.Nat.{ℕ, ◌<◌}
 use lib.Dec.{T, T_not, not_T, eqb, eqb→eq}
-use mir.Facts.{and_yes, yes_and}
+use mir.Facts.{and_yes, yes_and, yes_eqb}
 use Rattle.words.specs.System.{letter}
 use Rattle.words.specs.Fit.{Joins}
 use Rattle.words.proofs.Words.{known, is_some}
@@ -27,7 +27,7 @@ use Rattle.rules.proofs.Rows.{has_there, action, row_context}
 use Rattle.verdicts.specs.Triples.{has, triples}
 use Rattle.verdicts.specs.Verdict.{blocks}
 use Rattle.verdicts.proofs.Sweep.{Held}
-use Rattle.verdicts.proofs.Rows.{same_yes, joint_row_lem}
+use Rattle.verdicts.proofs.Rows.{joint_row_lem}
 use Rattle.verdicts.proofs.Held.{any_triple_lem}
 use Rattle.verdicts.proofs.Triples.{triples_exactly}
 
@@ -61,7 +61,7 @@ module _ (k : Skid) (asked : ℕ → ℕ → Bool) (states : ℕ) (next : List �
           let (t₁, t₂) = and_yes (eqb (row_state j.row) (context_of k.n_c (pair_place k.n_c a c))) (has k next d (row_letter k j.row)) j.joint in
           yes_any on_row k.context j.row j.is_row
           (yes_and (eqb (row_state j.row) a && eqb (row_i j.row) i.0) (has k next d (row_letter k j.row))
-          (yes_and (eqb (row_state j.row) a) (eqb (row_i j.row) i.0) (rw (pair_context k.n_c a c hc) at t₁) (same_yes (j.same_i ∙ ap (λ b. b.0) e))) t₂),
+          (yes_and (eqb (row_state j.row) a) (eqb (row_i j.row) i.0) (rw (pair_context k.n_c a c hc) at t₁) (yes_eqb (j.same_i ∙ ap (λ b. b.0) e))) t₂),
     )
       where
         on_row : List ℕ → Bool
