@@ -93,7 +93,7 @@ module _ (context specification controller sets : List ℕ) where
       matched e = record {
         ready = ready_so;
         table_long = specification_long context specification (controller_counts controller).states checkable.outside_agrees ∙ ap (λ z. z.specifications * z.steps) (sym counted);
-        next_long = omega (arith, e, table_few z ready_so.few);
+        next_long = omega (arith, e, table_few z ready_so.workable.few);
         room = checkable.room;
       }
         where

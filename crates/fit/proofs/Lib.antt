@@ -1,6 +1,7 @@
 pub mod Determined
 pub mod EntryLaws
 pub mod FrontierLaws
+pub mod JointStepLaws
 pub mod FurtherLaws
 pub mod WorkLaws
 pub mod WorkSetLaws

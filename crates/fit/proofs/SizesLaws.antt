@@ -43,7 +43,7 @@ module _ (context specification controller : List ℕ) where
     workable = sizes_workable context specification (controller_counts controller).states _ _ skid states_few ok.product_fits_lem
 
     pub sizes_ready : Ready sizes_read_lem context (specification_table specification) (controller_table controller)
-    sizes_ready = record { few = workable.few; sound = workable.sound; legal = workable.legal; table = read_controller_lem controller ok.controller_sound }
+    sizes_ready = record { workable = workable; table = read_controller_lem controller ok.controller_sound }
 
     -- U and V are those of the context
     pub controller_long : length (controller_table controller) ≡ sizes_read_lem.states * sizes_read_lem.letters

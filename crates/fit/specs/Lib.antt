@@ -1,4 +1,5 @@
 pub mod Inside
+pub mod Joint
 pub mod Panel
 pub mod Ready
 pub mod Questions

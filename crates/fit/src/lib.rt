@@ -10,6 +10,7 @@
 
 pub mod checking; // the check of three records
 mod complete; // incomplete: a state that the controller reaches has no row for some u
+mod joint; // a controller's table on a skid made ready
 mod judging; // what the triples are asked
 pub mod panel; // what the panel takes, with the contracts of the entries for C
 mod sets; // the sets of all controller states
