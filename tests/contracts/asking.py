@@ -4,7 +4,7 @@ import re
 from reading import PAGE, PROMISES, definition, functions, listed, named, promises, rows, theorem
 from texts import bare, groups, origins, split, tokens
 
-THROUGH, TAKES = "determined through", "takes"
+THROUGH, TAKES, ONLY = "determined through", "takes", "ensures only"
 START, END, RESULT = "at the start", "at the end", "the result"
 
 
@@ -75,6 +75,23 @@ def wrong_ensures(tree, function, predicate):
             wrong.append(f"gives {name} {what.strip()}, which is not asked")
         elif times != 1:
             wrong.append(f"gives {name} {what.strip()} {times} times, and not once")
+    return wrong
+
+
+def wrong_only(tree, function, predicate):
+    """Does a function whose outcome is left open ensure this predicate, and does it say something of all that goes out?"""
+    name, said, due, path = name_of(predicate), ensured(tree, function), owed(function), function.where.split(": ")[0]
+    wrong = [f"has a {word}" for word in sorted({word for word, _, _ in function.clauses} - {"ensures"})]
+    clause = [token for word, start, end in function.clauses if word == "ensures" for token in tokens(tree[path][start:end])]
+    if said is None or said[0] != name or not all(re.match(r"[\w(]", part[0]) for part in groups(clause)):
+        return wrong + [f"does not ensure {name}, and that alone"]
+    if due is None:
+        return wrong + ["has a parameter of a kind that this test does not know"]
+    wrong += from_elsewhere(tree, path, name, predicate)
+    for what, when in due:
+        here = {"": "result", END: f"{what} . new"}.get(when) if when or what == RESULT else None
+        if here and f" {here} " not in f" {' '.join(clause)} ":
+            wrong.append(f"says nothing of {what} {when}".strip())
     return wrong
 
 
@@ -192,7 +209,7 @@ def exceptions(tree):
     """The exceptions, as what they are about, their kind, and what they name; and the lines that are none."""
     found, strange = [], []
     for cells in listed(tree, "Exceptions"):
-        form = re.fullmatch(rf"`([^`]+)` \| ({THROUGH}|{TAKES}) `([^`]+)` \| \S.*", " | ".join(cells))
+        form = re.fullmatch(rf"`([^`]+)` \| ({THROUGH}|{TAKES}|{ONLY}) `([^`]+)` \| \S.*", " | ".join(cells))
         found.append(form.groups()) if form else strange.append(" | ".join(cells))
     return found, strange
 
@@ -210,15 +227,17 @@ def findings(tree):
         if where in public:
             wrong.append("is the name of two functions, and a row cannot say which")
         public[where] = function
+        through, only = (next((what for about, kind, what in excepted if (about, kind) == (where, form)), None) for form in (THROUGH, ONLY))
         if where in table:
-            through = next((what for about, kind, what in excepted if (about, kind) == (where, THROUGH)), None)
             wrong += wrong_ensures(tree, function, table[where].predicate) or wrong_determined(tree, function, table[where], through)
-        found[where] = wrong + [f"has no row in {PAGE}"] * (where not in table)
+        elif only:
+            wrong += wrong_only(tree, function, only)
+        found[where] = wrong + [f"has no row in {PAGE}"] * (where not in table and only is None)
     found.update({f"{PAGE}: {where}": ["is no public function"] for where in table if where not in public})
     about, taken = promised(tree, public, table, excepted)
     found.update(about)
     for where, kind, what in excepted:
         taken_here = name_of(what) in taken.get(name_of(where), ()) and origins(tree, PROMISES, name_of(what)) == [what]
-        used = where in public if kind == THROUGH else taken_here
+        used = {THROUGH: where in public, ONLY: where in public and where not in table, TAKES: taken_here}[kind]
         found[f"{PAGE}: {where} {kind} {what}"] = [] if used else ["is an exception to nothing"]
     return found

@@ -5,6 +5,7 @@ from reading import PAGE, PROMISES, functions, rows
 
 ENTRY = "mortarleaf_solve"
 ENTRIES = "crates/solver_c/src/lib.rt"
+OPEN = "crates/text/src/reading.rt: read_full"
 
 
 def swapped(tree, path, old, new):
@@ -136,6 +137,25 @@ def of_rows(tree):
     ]
 
 
+def of_open(tree):
+    path, name = OPEN.split(": ")
+    other = [f"{OPEN}: does not ensure FullyRead, and that alone"]
+
+    def reading(old, new):
+        return lambda tree: swapped(tree, path, old, new)
+
+    return [
+        ("what leaves something open ensures another predicate", reading("ensures { FullyRead", "ensures { FrontRead"), other),
+        ("it ensures its predicate or nothing", reading(r"(ensures \{.*?) \}", r"\1 ⊎ ⊤ }"), other),
+        ("it says nothing of the buffer at the end", reading(r"buffer\.new", "buffer.old"), [f"{OPEN}: says nothing of buffer at the end"]),
+        ("it says nothing of its result", reading(" result ", " (Err 0) "), [f"{OPEN}: says nothing of the result"]),
+        ("it has a requires", reading("(ensures)", r"requires { 0 ≤ length buffer.old } \1"), [f"{OPEN}: has a requires"]),
+        ("its predicate is of another file", reading(r"Rattle\.text\.specs\.Reading\.", "Rattle.text.specs.Weak."),
+            [f"{OPEN}: FullyRead is that of crates/text/specs/Weak.antt: FullyRead, and not that of crates/text/specs/Reading.antt: FullyRead"]),
+        ("no exception says that it leaves something open", no_exception(name), [f"{OPEN}: has no row in {PAGE}"]),
+    ]
+
+
 def of_theorems(tree):
     theorem, text = row_of(tree).theorem, row_of(tree, ": solve_text")
 
@@ -193,4 +213,4 @@ def of_promises(tree):
 def cases(tree):
     """A name for each copy, how it is made, and what is to be said of it."""
     last = ("harmless: comments, line breaks, a function that is not public", harmless, [])
-    return of_functions(tree) + of_rows(tree) + of_theorems(tree) + of_promises(tree) + [last]
+    return of_functions(tree) + of_rows(tree) + of_open(tree) + of_theorems(tree) + of_promises(tree) + [last]
