@@ -28,7 +28,7 @@ pub enum Unsolved {
 // What solving finds.
 pub type Answer = Result<Found, Unsolved>;
 
-// What a mode number asks for; of other numbers nothing.
+// What a mode number asks for; of other numbers nothing. A function, not a TryFrom (what may not change: `mode_of`, with `ModeOf`).
 pub fn mode_of(number: u32) -> Option<Wanted>
     ensures { ModeOf number result }
 {

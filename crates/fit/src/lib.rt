@@ -35,7 +35,8 @@ pub struct Controller {
     pub v: u32,
 }
 
-// The reply that a verdict on a controller of so many states gives.
+// The reply that a verdict on a controller of so many states gives: a function, not a From (what may not change: `verdict_reply`, with `Replied`; it takes
+// the states too).
 pub fn verdict_reply(verdict: Verdict, states: u32) -> Reply
     ensures { Replied states verdict result }
 {

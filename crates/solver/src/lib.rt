@@ -20,7 +20,7 @@ ghost use Rattle.answers.specs.Solve.{AnswerReplied};
 use answers::{Answer, Unsolved};
 use rules::{Reply, refused, succeeded};
 
-// The reply that an answer gives.
+// The reply that an answer gives: a function, not a From (what may not change: `answer_reply`, with `AnswerReplied`; a From needs a type of this crate).
 pub fn answer_reply(answer: Answer) -> Reply
     ensures { AnswerReplied answer result }
 {
