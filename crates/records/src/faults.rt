@@ -97,7 +97,8 @@ fn head_fault(b: &[u8], kind: Kind) -> Result<(), Fault>
     Ok(())
 }
 
-// Each field is below the count whose place is given for it.
+// Each field is below the count whose place is given for it. (By place: a closure would have to look the count up by a place that it knows nothing of.)
+#[inline(always)]
 fn is_below(row: [u32; 6], counts: [u32; 6], places: &[u8]) -> bool
     requires { Places places.now }
     ensures { result ≡ fields_below counts (take (length places.now) row) places.now }
@@ -111,6 +112,7 @@ fn is_below(row: [u32; 6], counts: [u32; 6], places: &[u8]) -> bool
     true
 }
 
+#[inline(always)]
 fn has_codes_below(row: [u32; 6], counts: [u32; 6], kind: Kind) -> bool
     ensures { result ≡ fields_below counts (fields_of (layout_of kind) row) (layout_of kind).below }
 {
@@ -118,6 +120,7 @@ fn has_codes_below(row: [u32; 6], counts: [u32; 6], kind: Kind) -> bool
 }
 
 // Row k, after the row before it, which is not looked at where k is 0: refusals 5, 6 and 7, in their order.
+#[inline(always)]
 fn row_fault(
     kind: Kind,
     counts: [u32; 6],
@@ -142,6 +145,7 @@ fn row_fault(
 }
 
 // The first faulty row decides. Each row is read once.
+#[inline(always)]
 fn rows_fault(b: &[u8], kind: Kind) -> Result<(), Fault>
     requires { row_count (layout_of kind) b.now < 65536 }
     ensures { result ≡ rows_fault (layout_of kind) (counts_in (layout_of kind) b.now) 0 [] (rows_in (layout_of kind) b.now) }
@@ -158,6 +162,7 @@ fn rows_fault(b: &[u8], kind: Kind) -> Result<(), Fault>
 }
 
 // What is wrong with a record.
+#[inline(always)]
 pub(crate) fn fault_of(b: &[u8], kind: Kind) -> Result<(), Fault>
     ensures { result ≡ fault (layout_of kind) b.now }
 {

@@ -57,6 +57,9 @@ static CONTROLLER_LAYOUT: Layout = Layout {
     row_size: 6,
 };
 
+// Its callers name one kind each: what is marked inline(always) here, in numbers.rt, faults.rt and readers.rt is compiled for each kind by itself, with the
+// sizes written out (without: half as fast).
+#[inline(always)]
 pub(crate) fn layout_of(kind: Kind) -> &'static Layout
     ensures { LaidOut (layout_of kind) result.now }
 {
@@ -68,6 +71,7 @@ pub(crate) fn layout_of(kind: Kind) -> &'static Layout
 }
 
 // The rows of a record of any length.
+#[inline(always)]
 pub(crate) fn row_count(b: &[u8], kind: Kind) -> usize
     ensures { result ≡ row_count (layout_of kind) b.now }
 {
@@ -79,6 +83,7 @@ pub(crate) fn row_count(b: &[u8], kind: Kind) -> usize
 }
 
 // The counts in their order; zeros after them.
+#[inline(always)]
 pub(crate) fn counts_of(b: &[u8], kind: Kind) -> [u32; 6]
     ensures { Held (counts_in (layout_of kind) b.now) result }
 {
@@ -86,6 +91,7 @@ pub(crate) fn counts_of(b: &[u8], kind: Kind) -> [u32; 6]
 }
 
 // The fields of row k; zeros after them.
+#[inline(always)]
 pub(crate) fn row_of(b: &[u8], kind: Kind, k: usize) -> [u32; 6]
     requires { k < row_count (layout_of kind) b.now }
     ensures { Held (get_or (rows_in (layout_of kind) b.now) k []) result }

@@ -38,7 +38,8 @@ fn state_of(b: &[u8], k: usize) -> usize
     number_at(b, layout.head_size + k * layout.row_size, 1) as usize
 }
 
-// The first row from row `from` on whose state is `a` or above; where there is none, the number of rows, or `from` where that is beyond them.
+// The first row from row `from` on whose state is `a` or above; where there is none, the number of rows, or `from` where that is beyond them. (No chain,
+// here and in `row_number`: a closure knows nothing of k < n, which reading row k requires.)
 fn first_row(b: &[u8], a: usize, from: usize) -> usize
     ensures { result ≡ first_row (rows_in context_layout b.now) a from }
 {
@@ -63,11 +64,11 @@ pub fn state_rows(b: &[u8], state: CtxState, from: usize) -> StateRows
     }
 }
 
-// The row has the key.
+// The row has the key. (Not `==` of two arrays: tried, and a key is found at half the speed.)
 fn has_key(row: [u32; 6], a: u32, i: u32, v: u32, u: u32, o: u32) -> bool
     ensures { result ≡ has_key a i v u o row }
 {
-    [row[0], row[1], row[2], row[3], row[4]] == [a, i, v, u, o]
+    row[0] == a && row[1] == i && row[2] == v && row[3] == u && row[4] == o
 }
 
 // The number of the row with this key; the number of rows where there is none.

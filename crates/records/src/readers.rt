@@ -42,6 +42,7 @@ pub fn record_counts(b: &[u8], kind: Kind) -> Counts
 }
 
 // A record of any kind: its counts, or its refusal.
+#[inline(always)]
 pub fn read_record(b: &[u8], kind: Kind) -> Result<Counts, Refusal>
     ensures { RecordRead kind b.now result }
 {

@@ -68,7 +68,8 @@ pub(crate) fn fill_table(
     size
 }
 
-// Zeros from a place up to 8,192. A table that is too short stays whole, and so does one where the place is beyond.
+// Zeros from a place up to 8,192. A table that is too short stays whole, and so does one where the place is beyond. (The twin of `zero_sets` of crate
+// `tables` at another type: what both share is the library's `fill`, and the law `zeroed_part`.)
 pub fn zero_after(next: &mut [u16], size: usize)
     ensures { NextZeroed next.old size next.new }
 {

@@ -6,7 +6,7 @@ use mathlib.Core.Path.{◌≡◌, refl, sym, ap, ◌∙◌}
 use mathlib.Core.Bool.{Bool, true, false}
 use mathlib.Core.List.{List, [], ◌∷◌, ◌++◌, flat_map, append_assoc, append-nil}
 use Prim.Native.Nat.{ℕ, suc, ◌+◌, ◌-◌, ◌*◌, ◌/◌, ◌%◌, ◌^◌, ◌≤◌, ◌<◌}
-use native.Mathlib.Nat.{zero-add, add-zero, mul-le-mul, mul-pos}
+use native.Mathlib.Nat.{zero-add, add-zero, mul_comm, mul-le-mul, mul-pos, div-div-eq-div-mul}
 use native.Mathlib.Omega.{arith}
 use lib.Dec.{eqb}
 use lib.ListN.{length, get_or, take, drop, length-append, length-drop, drop_of_length-le, take-append-drop}
@@ -200,13 +200,14 @@ module _ (n_u n_v states : ℕ) (all : List ℕ) (rows : ℕ) (w : Writable n_u 
       let few_v : n_v % 256 ≡ n_v = omega (arith, w.codes.few_v) in
       rw (e, is_after, is_count, few_u, few_v)
 
-  pub row_put : (p : ℕ) (o state to put : List ℕ) → state ≡ to_le_bytes w16 (p / (n_u * n_v)) → to ≡ to_le_bytes w16 (get_or all p 0)
+  pub row_put : (p : ℕ) (o state to put : List ℕ) → state ≡ to_le_bytes w16 (p / n_v / n_u) → to ≡ to_le_bytes w16 (get_or all p 0)
       → put ≡ get_or state 0 0 ∷ get_or state 1 0 ∷ p / n_v % n_u ∷ p % n_v ∷ get_or to 0 0 ∷ get_or to 1 0 ∷ [] → put ++ drop 6 o ≡ leading (row_bytes n_u n_v p (get_or all p 0)) o
   unfolding bytes_of written controller_layout
   row_put p o state to put is_state is_to e =
       let few_u : p / n_v % n_u % 256 ≡ p / n_v % n_u = omega (arith, w.codes.some_u, w.codes.few_u) in
       let few_v : p % n_v % 256 ≡ p % n_v = omega (arith, w.codes.some_v, w.codes.few_v) in
-      rw (e, is_state, is_to, few_u, few_v)
+      let steps : p / n_v / n_u ≡ p / (n_u * n_v) = div-div-eq-div-mul p n_v n_u ∙ ap (λ n. p / n) (mul_comm n_v n_u) in
+      rw (e, is_state, is_to, few_u, few_v, steps)
 
   pub rows_room : (o out : List ℕ) → length (controller_bytes n_u n_v states all) ≤ length o → length out ≡ length o → length (rows_bytes n_u n_v 0 all) ≤ length (take (length out - 8) (drop 8 out))
   rows_room o out h e = rw (lent_part, length-drop, length_rows) (omega (arith, rw same_places at (length_controller n_u n_v states all)))

@@ -65,12 +65,13 @@ impl<'a> Controller<'a> {
     {
         let u = self.u as usize;
         let v = self.v as usize;
-        let state = ((p / (u * v)) as u16).to_le_bytes();
+        let step = p / v;
+        let state = ((step / u) as u16).to_le_bytes();
         let to = self.places[p].to_le_bytes();
         let row = [
             state[0],
             state[1],
-            (p / v % u) as u8,
+            (step % u) as u8,
             (p % v) as u8,
             to[0],
             to[1],
