@@ -1,18 +1,16 @@
 -- The check not refused: three records that may be checked, the controller's next table as it is lent, and the verdict as the outcome.
 -- Assumes nothing.
+use Rattle.std.specs.Prelude.{Ok}
 use mathlib.Core.Path.{◌≡◌, refl, sym, ap, subst₂, ◌∙◌}
-use mathlib.Core.Bool.{not}
 use mathlib.Core.List.{List, ◌++◌, append_assoc}
 use Prim.Native.Nat.{ℕ, ◌-◌, ◌*◌}
 use native.Mathlib.Omega.{arith}
-use lib.Dec.{eqb}
 use lib.ListN.{length, take, drop, replicate}
 use lib.Seq.{take_at}
 use borrow.Author.Tests.{leb-true}
 use Rattle.pairs.specs.Lent.{filled, encoded_sets}
 use Rattle.rules.specs.declared.Reply.{Reply}
 use Rattle.rules.specs.declared.Counts.{Counts}
-use Rattle.rules.specs.declared.Reading.{Reading}
 use Rattle.rules.specs.Limits.{set_numbers, next_numbers}
 use Rattle.rules.specs.Counts.{controller_counts}
 use Rattle.rules.specs.Replies.{refuses}
@@ -27,13 +25,15 @@ use Rattle.verdicts.specs.Check.{sets_named, judge, Checked}
 use Rattle.verdicts.specs.Checkable.{Checkable}
 use Rattle.verdicts.proofs.Checkable.{judged}
 use Rattle.tables.specs.declared.Sizes.{Sizes}
-use Rattle.tables.specs.Skids.{sizes_of, SkidRead}
+use Rattle.tables.specs.declared.skids.SkidCounts.{SkidCounts}
+use Rattle.tables.specs.Skids.{sizes_of, skid_reading, SkidRead}
+use Rattle.tables.proofs.SkidReadLaws.{skid_read}
 use Rattle.tables.proofs.SkidLaws.{sizes_read, sizes_are, specification_long}
 use Rattle.fit.specs.Ready.{Ready, Judged}
 use Rattle.fit.specs.Matched.{match_refusal, Matched}
 use Rattle.fit.proofs.SizesLaws.{sizes_read_lem, sizes_ready, controller_long, table_few}
 use Rattle.fit.proofs.ReadingLaws.{controller_sound, controller_counts_lem}
-use Rattle.fit.proofs.RefusedLaws.{match_told}
+use Rattle.fit.proofs.RefusedLaws.{counts_told}
 
 -- the front of a filled buffer
 front_filled : (n : ℕ) (part buffer : List ℕ) (size : ℕ) → length part ≡ size → take size (filled n part buffer) ≡ part
@@ -55,38 +55,40 @@ module _ (context specification controller sets : List ℕ) where
         sets_are = j.sets_are ∙ ap (λ v. filled set_numbers (sets_named reached v) sets) j.verdict_is ∙ sym (ap (λ o. o.sets) outcome);
       }
 
-  module _ (c s : Counts) (skid : SkidRead context specification c s) (array : List ℕ) (whole : length array ≡ 8192) (read : Reading) (next : List ℕ) (reading : ControllerRead controller array read next) (legal : read.reply.number ≡ 0) (found : Reply) (found_is : found ≡ match_refusal c s read.counts (length sets)) (fine : found.number ≡ 0) where
-    counts_are : read.counts ≡ controller_counts controller
-    counts_are = controller_counts_lem controller array whole read next reading legal
+  module _ (k : SkidCounts) (reading : Ok k ≡ skid_reading context specification) (array : List ℕ) (whole : length array ≡ 8192) (next : List ℕ) (t : Counts) (read : ControllerRead controller array (Ok t) next) (match : Ok tt ≡ match_refusal k t (length sets)) where
+    skid : SkidRead context specification k
+    skid = skid_read context specification k reading
+
+    counts_are : t ≡ controller_counts controller
+    counts_are = controller_counts_lem controller array whole next t read
 
     -- no refusal 1 to 10
     checkable : Checkable context specification controller sets
-    unfolding match_refusal outside_agree letters_agree product_fits
+    unfolding outside_agree letters_agree product_fits
     checkable =
-        let told = match_told context specification controller sets c s skid array whole read next reading legal found found_is in
-        let e₀ = ap refuses (sym told) ∙ ap (λ n. not (eqb n 0)) fine in
+        let e₀ = ap refuses (sym (counts_told context specification controller sets k reading array whole next t read (Ok tt) match)) in
         let (e₁, r₁) = or_else_fine _ _ e₀ in
         let (e₂, r₂) = or_else_fine _ _ r₁ in
         let (e₃, e₄) = or_else_fine _ _ r₂ in
         record {
           context_sound = skid.context_sound;
           specification_sound = skid.specification_sound;
-          controller_sound = controller_sound controller array whole read next reading legal;
+          controller_sound = controller_sound controller array whole next t read;
           outside_agrees = unless_fine _ 8 2 refl e₁;
           letters_agree_lem = unless_fine _ 8 3 refl e₂;
           product_fits_lem = unless_fine _ 9 0 refl e₃;
           room = leb-true set_numbers (length sets) (unless_fine _ 10 0 refl e₄);
         }
 
-    module _ (z : Sizes) (z_is : z ≡ sizes_of c s read.counts.states) where
+    module _ (z : Sizes) (z_is : z ≡ sizes_of k.context k.specification t.states) where
       counted : z ≡ sizes_read_lem context specification controller
-      counted = sizes_are context specification read.counts.states c s skid z z_is ∙ ap (λ t. sizes_read context specification t.states) counts_are
+      counted = sizes_are context specification t.states k skid z z_is ∙ ap (λ t. sizes_read context specification t.states) counts_are
 
       -- the part of the next table that is lent
       lent_is : take (z.states * z.letters) next ≡ controller_table controller
       unfolding next_numbers
       lent_is =
-          ap (take (z.states * z.letters)) (reading.next_is ∙ read_next controller array checkable.controller_sound (omega (arith, whole)))
+          ap (take (z.states * z.letters)) (read.next_is ∙ read_next controller array checkable.controller_sound (omega (arith, whole)))
           ∙ front_filled 8192 (controller_table controller) array (z.states * z.letters) (controller_long context specification controller sets checkable ∙ ap (λ z. z.states * z.letters) (sym counted))
 
       pub matched : length next ≡ 8192 → Matched z context specification next sets
@@ -101,7 +103,7 @@ module _ (context specification controller sets : List ℕ) where
           ready_so = subst₂ (λ z l. Ready z context (specification_table specification) l) (sym counted) (sym lent_is) (sizes_ready context specification controller sets checkable)
 
       pub check_done : (v : Verdict) (sets' : List ℕ) → Judged z context (specification_table specification) (take (z.states * z.letters) next) sets v sets'
-          → (r : Reply) → r ≡ verdict_reply read.counts.states v → Checked context specification controller sets r sets'
+          → (r : Reply) → r ≡ verdict_reply t.states v → Checked context specification controller sets r sets'
       check_done v sets' j r e =
           check_judged checkable v sets' (subst₂ (λ z l. Judged z context (specification_table specification) l sets v sets') counted lent_is j) r
           (e ∙ ap (λ c. verdict_reply c.states v) counts_are)

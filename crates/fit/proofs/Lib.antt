@@ -1,5 +1,4 @@
 pub mod Determined
-pub mod EntryLaws
 pub mod FrontierLaws
 pub mod JointStepLaws
 pub mod FurtherLaws

@@ -1,54 +1,56 @@
--- A reading of a controller that replies 0 has the counts of a record without fault; one that does not has the record's refusal.
+-- A controller that was read, where 8,192 numbers are lent: its counts are those of a record without fault; else the refusal is the record's.
 -- Assumes nothing.
-use Rattle.std.specs.Prelude.{if◌then◌else◌}
-use mathlib.Core.Path.{◌≡◌, refl, ap, ◌∙◌}
-use mathlib.Core.Logic.{◌≢◌}
-use mathlib.Core.Bool.{Bool, true, false}
+use Rattle.std.specs.Prelude.{Ok, Err}
+use mathlib.Core.Path.{◌≡◌, refl, ◌∙◌}
+use mathlib.Core.Bool.{true}
 use mathlib.Core.List.{List}
 use Prim.Native.Nat.{ℕ}
 use native.Mathlib.Omega.{arith}
 use lib.ListN.{length}
 use borrow.Author.Tests.{le-leb}
-use Rattle.rules.specs.declared.Reply.{Reply}
-use Rattle.rules.specs.declared.Reading.{Reading}
-use Rattle.rules.specs.declared.Fault.TheVariants.{Sound}
+use Rattle.rules.specs.declared.Counts.{Counts}
+use Rattle.rules.specs.declared.Refusal.{Refusal}
+use Rattle.rules.specs.declared.Refusal.TheVariants.{Record}
+use Rattle.rules.specs.declared.Kind.TheVariants.{Controller}
 use Rattle.rules.specs.Limits.{next_numbers}
 use Rattle.rules.specs.Layouts.{controller_layout}
 use Rattle.rules.specs.Counts.{controller_counts}
-use Rattle.rules.specs.Faults.{fault}
-use Rattle.rules.specs.Replies.{fine, refuses, unless, ◌or_else◌, record_refusal}
-use Rattle.rules.specs.Reading.{read_unless, controller_refusal, read_controller, ControllerRead}
-use Rattle.rules.proofs.ReadsFine.{no_fault}
-use Rattle.rules.proofs.NotRefused.{or_else_fine}
-use Rattle.tables.proofs.ReadingLaws.{bad_reading, reply_fine, counts_read}
+use Rattle.rules.specs.Faults.{Finding, fault}
+use Rattle.rules.specs.Replies.{fault_reply, record_refusal, refusal_reply}
+use Rattle.rules.specs.Reading.{Reading, read_unless, read_record, in_room, read_controller, ControllerRead}
 
--- a controller, for which 8,192 numbers are lent
-module _ (b array : List ℕ) (whole : length array ≡ 8192) (read : Reading) (next : List ℕ) (reading : ControllerRead b array read next) where
-  abbrev refused : Reply
-  refused = record_refusal 3 controller_layout b
+module _ (b : List ℕ) where
+  abbrev reading_of : Finding → Reading
+  reading_of f = read_unless Controller f (controller_counts b)
 
-  read_is : read ≡ read_unless (controller_refusal b array) (controller_counts b)
-  unfolding read_controller
-  read_is = reading.reading_is
+  refused_as : (r : Refusal) (f : Finding) → Err r ≡ reading_of f → refusal_reply r ≡ fault_reply 3 f
+  unfolding read_unless fault_reply
+  refused_as r (Ok u) e = absurd cc
+  refused_as r (Err f) e = let same : r ≡ Record Controller f = cc in rw same
 
-  refusal_is : controller_refusal b array ≡ (if refuses refused then refused else fine)
-  unfolding controller_refusal ◌or_else◌ unless next_numbers
-  refusal_is = rw (le-leb 8192 (length array) (omega (arith, whole)))
+  legal_as : (t : Counts) (f : Finding) → Ok t ≡ reading_of f → (f ≡ Ok tt) × (t ≡ controller_counts b)
+  unfolding read_unless
+  legal_as t (Ok u) e = (refl, cc)
+  legal_as t (Err f) e = absurd cc
 
-  pub controller_refused : read.reply.number ≢ 0 → read.reply ≡ refused
-  controller_refused bad = go (refuses refused) refl
-    where
-      reply_is : read.reply ≡ (if refuses refused then refused else fine)
-      reply_is = ap (λ r. r.reply) (bad_reading (controller_refusal b array) (controller_counts b) read read_is bad) ∙ refusal_is
+  room_for : (r : Reading) → in_room true r ≡ r
+  unfolding in_room
+  room_for (Ok t) = refl
+  room_for (Err r) = refl
 
-      go : (c : Bool) → refuses refused ≡ c → read.reply ≡ refused
-      go true e = reply_is ∙ rw e
-      go false e = absurd (bad (ap (λ r. r.number) reply_is ∙ rw e))
+  module _ (array : List ℕ) (whole : length array ≡ 8192) where
+    read_is : (read_controller b array).reading ≡ reading_of (fault controller_layout b)
+    unfolding read_controller read_record next_numbers
+    read_is = rw (le-leb 8192 (length array) (omega (arith, whole))) (room_for (reading_of (fault controller_layout b)))
 
-  pub controller_sound : read.reply.number ≡ 0 → fault controller_layout b ≡ Sound
-  unfolding controller_refusal record_refusal
-  controller_sound legal =
-      no_fault 3 (fault controller_layout b) (or_else_fine (record_refusal 3 controller_layout b) _ (reply_fine (controller_refusal b array) (controller_counts b) read read_is legal)).0
+    module _ (next : List ℕ) where
+      pub controller_refused : (r : Refusal) → ControllerRead b array (Err r) next → refusal_reply r ≡ record_refusal 3 controller_layout b
+      unfolding record_refusal
+      controller_refused r read = refused_as r (fault controller_layout b) (read.reading_is ∙ read_is)
 
-  pub controller_counts_lem : read.reply.number ≡ 0 → read.counts ≡ controller_counts b
-  controller_counts_lem = counts_read (controller_refusal b array) (controller_counts b) read read_is
+      module _ (t : Counts) (read : ControllerRead b array (Ok t) next) where
+        pub controller_sound : fault controller_layout b ≡ Ok tt
+        controller_sound = (legal_as t (fault controller_layout b) (read.reading_is ∙ read_is)).0
+
+        pub controller_counts_lem : t ≡ controller_counts b
+        controller_counts_lem = (legal_as t (fault controller_layout b) (read.reading_is ∙ read_is)).1

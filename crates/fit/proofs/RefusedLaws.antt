@@ -1,73 +1,62 @@
--- The check refused: the first refusal is the reply, and the lent numbers are as they were.
+-- The check refused: the first refusal gives the reply, and the lent numbers are as they were.
 -- Assumes nothing.
+use Rattle.std.specs.Prelude.{Result, Ok, Err}
 use mathlib.Core.Path.{◌≡◌, sym, ◌∙◌}
-use mathlib.Core.Logic.{◌≢◌}
-use mathlib.Core.Bool.{false}
 use mathlib.Core.List.{List}
 use Prim.Native.Nat.{ℕ}
 use lib.ListN.{length}
 use Rattle.rules.specs.declared.Reply.{Reply}
 use Rattle.rules.specs.declared.Counts.{Counts}
-use Rattle.rules.specs.declared.Reading.{Reading}
-use Rattle.rules.specs.declared.Fault.TheVariants.{Sound}
+use Rattle.rules.specs.declared.Refusal.{Refusal}
 use Rattle.rules.specs.Layouts.{controller_layout}
-use Rattle.rules.specs.Counts.{context_counts, specification_counts, controller_counts}
+use Rattle.rules.specs.Counts.{controller_counts}
 use Rattle.rules.specs.Faults.{fault}
-use Rattle.rules.specs.Replies.{refuses, ◌or_else◌, fault_reply, record_refusal}
+use Rattle.rules.specs.Replies.{fine, ◌or_else◌, fault_reply, record_refusal, refusal_reply}
 use Rattle.rules.specs.Matching.{skid_refusal}
 use Rattle.rules.specs.Reading.{ControllerRead}
 use Rattle.verdicts.specs.Check.{check_refusal, check, Checked}
-use Rattle.tables.specs.declared.skids.SkidReading.{SkidReading}
-use Rattle.tables.specs.Skids.{skid_reading, SkidRead}
-use Rattle.tables.proofs.SkidReadLaws.{bad_refuses, skid_refused, skid_fine}
+use Rattle.tables.specs.declared.skids.SkidCounts.{SkidCounts}
+use Rattle.tables.specs.Skids.{skid_reading, skid_counts, outcome_reply}
+use Rattle.tables.proofs.SkidReadLaws.{skid_read, skid_refused, skid_passes}
+use Rattle.tables.proofs.SkidMatchLaws.{refusal_refuses, refused_first, fine_first}
 use Rattle.fit.specs.Matched.{match_refusal}
-use Rattle.fit.proofs.MatchLaws.{check_refusal_lem}
+use Rattle.fit.proofs.MatchLaws.{match_reply, match_told, check_refusal_lem}
 use Rattle.fit.proofs.ReadingLaws.{controller_refused, controller_sound, controller_counts_lem}
 
-record_fine : (b : List ℕ) → fault controller_layout b ≡ Sound → refuses (record_refusal 3 controller_layout b) ≡ false
+record_fine : (b : List ℕ) → fault controller_layout b ≡ Ok tt → fine ≡ record_refusal 3 controller_layout b
 unfolding record_refusal fault_reply
 record_fine b e = rw e
 
--- the two records of a skid, then the controller, then their counts: the first of three that refuses, here r
-module _ (a b c r : Reply) (bad : r.number ≢ 0) where
-  first_refuses : r ≡ a → (a or_else b or_else c) ≡ r
-  unfolding ◌or_else◌
-  first_refuses e = rw (← e, bad_refuses r bad)
-
-  module _ (fine_a : refuses a ≡ false) where
-    second_refuses : r ≡ b → (a or_else b or_else c) ≡ r
-    unfolding ◌or_else◌
-    second_refuses e = rw (fine_a, ← e, bad_refuses r bad)
-
-    third_refuses : refuses b ≡ false → r ≡ c → (a or_else b or_else c) ≡ r
-    unfolding ◌or_else◌
-    third_refuses fine_b e = rw (fine_a, fine_b, ← e)
-
 module _ (context specification controller sets : List ℕ) where
+  abbrev refused : Reply
+  refused =
+      skid_refusal context specification or_else record_refusal 3 controller_layout controller
+      or_else match_reply (skid_counts context specification) (controller_counts controller) (length sets)
+
   -- "otherwise unwritten"
-  stays : (r : Reply) → r.number ≢ 0
-      → (skid_refusal context specification or_else record_refusal 3 controller_layout controller
-      or_else match_refusal (context_counts context) (specification_counts specification) (controller_counts controller) (length sets)) ≡ r
-      → Checked context specification controller sets r sets
+  stays : (r : Refusal) → refusal_reply r ≡ refused → Checked context specification controller sets (refusal_reply r) sets
   unfolding check
-  stays r bad e =
-      let refused : check_refusal context specification controller sets ≡ r = check_refusal_lem context specification controller sets ∙ e in
-      record { reply_is = sym (rw (refused, bad_refuses r bad)); sets_are = sym (rw (refused, bad_refuses r bad)) }
+  stays r e =
+      let first : check_refusal context specification controller sets ≡ refusal_reply r = check_refusal_lem context specification controller sets ∙ sym e in
+      record { reply_is = sym (rw (first, refusal_refuses r)); sets_are = sym (rw (first, refusal_refuses r)) }
 
-  pub skid_stays : (read : SkidReading) → read ≡ skid_reading context specification → read.reply.number ≢ 0 → Checked context specification controller sets read.reply sets
-  skid_stays read read_is bad = stays read.reply bad (first_refuses _ _ _ read.reply bad (skid_refused context specification read read_is bad))
+  pub skid_stays : (r : Refusal) → Err r ≡ skid_reading context specification → Checked context specification controller sets (refusal_reply r) sets
+  skid_stays r e = stays r (refused_first r _ _ (skid_refused context specification r e))
 
-  module _ (c s : Counts) (skid : SkidRead context specification c s) (array : List ℕ) (whole : length array ≡ 8192) (read : Reading) (next : List ℕ) (reading : ControllerRead controller array read next) where
-    pub controller_stays : read.reply.number ≢ 0 → Checked context specification controller sets read.reply sets
-    controller_stays bad =
-        stays read.reply bad (second_refuses _ _ _ read.reply bad (skid_fine context specification c s skid) (controller_refused controller array whole read next reading bad))
+  module _ (k : SkidCounts) (skid : Ok k ≡ skid_reading context specification) (array : List ℕ) (whole : length array ≡ 8192) (next : List ℕ) where
+    skid_first : refused ≡ (record_refusal 3 controller_layout controller or_else match_reply (skid_counts context specification) (controller_counts controller) (length sets))
+    skid_first = fine_first _ _ (skid_passes context specification k (skid_read context specification k skid))
 
-    -- what is found of the counts that were read is found of those of the records
-    pub match_told : read.reply.number ≡ 0 → (found : Reply) → found ≡ match_refusal c s read.counts (length sets)
-        → found ≡ match_refusal (context_counts context) (specification_counts specification) (controller_counts controller) (length sets)
-    match_told legal found e = e ∙ rw (skid.context_counts_lem, skid.specification_counts_lem, controller_counts_lem controller array whole read next reading legal)
+    pub controller_stays : (r : Refusal) → ControllerRead controller array (Err r) next → Checked context specification controller sets (refusal_reply r) sets
+    controller_stays r read = stays r (refused_first r _ _ (controller_refused controller array whole next r read) ∙ sym skid_first)
 
-    pub match_stays : read.reply.number ≡ 0 → (found : Reply) → found ≡ match_refusal c s read.counts (length sets) → found.number ≢ 0
-        → Checked context specification controller sets found sets
-    match_stays legal found found_is bad =
-        stays found bad (third_refuses _ _ _ found bad (skid_fine context specification c s skid) (record_fine controller (controller_sound controller array whole read next reading legal)) (match_told legal found found_is))
+    module _ (t : Counts) (read : ControllerRead controller array (Ok t) next) where
+      -- what is found of the counts that were read is found of those of the records
+      pub counts_told : (r : Result Unit Refusal) → r ≡ match_refusal k t (length sets)
+          → outcome_reply r ≡ match_reply (skid_counts context specification) (controller_counts controller) (length sets)
+      counts_told r e =
+          match_told (skid_counts context specification) (controller_counts controller) (length sets) r
+          (e ∙ rw ((skid_read context specification k skid).counts_are, controller_counts_lem controller array whole next t read))
+
+      pub match_stays : (r : Refusal) → Err r ≡ match_refusal k t (length sets) → Checked context specification controller sets (refusal_reply r) sets
+      match_stays r e = stays r (counts_told (Err r) e ∙ sym (fine_first _ _ (record_fine controller (controller_sound controller array whole next t read))) ∙ sym skid_first)

@@ -9,7 +9,7 @@ use lib.ListN.{length}
 use Rattle.rules.specs.Limits.{state_limit}
 use Rattle.rules.specs.Layouts.{controller_layout}
 use Rattle.rules.specs.Records.{rows_in}
-use Rattle.rules.specs.Counts.{context_counts, specification_counts, controller_counts}
+use Rattle.rules.specs.Counts.{context_counts, controller_counts}
 use Rattle.rules.specs.Matching.{letters_agree}
 use Rattle.rules.specs.Tables.{specification_table, controller_table}
 use Rattle.rules.proofs.Sound.{count_within}
@@ -19,7 +19,7 @@ use Rattle.rules.proofs.Read.{agreeing}
 use Rattle.verdicts.specs.Checkable.{Checkable}
 use Rattle.tables.specs.declared.Sizes.{Sizes}
 use Rattle.tables.specs.Inside.{Few, Workable}
-use Rattle.tables.specs.Skids.{SkidRead}
+use Rattle.tables.specs.Skids.{skid_counts, SkidRead}
 use Rattle.tables.proofs.SkidLaws.{sizes_read, sizes_workable}
 use Rattle.fit.specs.Ready.{Ready}
 
@@ -32,15 +32,15 @@ module _ (context specification controller : List ℕ) where
   sizes_read_lem = sizes_read context specification (controller_counts controller).states
 
   module _ (sets : List ℕ) (ok : Checkable context specification controller sets) where
-    skid : SkidRead context specification (context_counts context) (specification_counts specification)
-    skid = record { context_sound = ok.context_sound; specification_sound = ok.specification_sound; context_counts_lem = refl; specification_counts_lem = refl }
+    skid : SkidRead context specification (skid_counts context specification)
+    skid = record { context_sound = ok.context_sound; specification_sound = ok.specification_sound; counts_are = refl }
 
     states_few : (controller_counts controller).states ≤ 512
     unfolding controller_layout state_limit
     states_few = (count_within controller_layout controller ok.controller_sound 2 (omega arith)).1
 
     workable : Workable sizes_read_lem context (specification_table specification)
-    workable = sizes_workable context specification (controller_counts controller).states _ _ skid states_few ok.product_fits_lem
+    workable = sizes_workable context specification (controller_counts controller).states _ skid states_few ok.product_fits_lem
 
     pub sizes_ready : Ready sizes_read_lem context (specification_table specification) (controller_table controller)
     sizes_ready = record { workable = workable; table = read_controller_lem controller ok.controller_sound }

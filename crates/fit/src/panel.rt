@@ -1,27 +1,37 @@
 // What the panel takes: reading of the three records, writing of a controller, and the check. Each is one call of the plain function. The crate fit_c has
 // the entries for C, which call these.
+ghost use Rattle.std.specs.Prelude.{◌≡◌};
+ghost use Rattle.rules.specs.Reading.{reading_reply};
 ghost use Rattle.rules.specs.Writing.{ControllerWritten};
 ghost use Rattle.verdicts.specs.Check.{Checked};
 ghost use Rattle.fit.specs.Panel.{ContextReplied, SpecificationReplied, ControllerReplied};
 
 use super::Controller;
 use super::checking::check;
-use records::readers::{read_context, read_controller, read_specification};
-use rules::Reply;
+use records::readers::{read_controller, read_record};
+use rules::{Counts, Kind, Refusal, Reply, succeeded};
 use writing::write_controller;
+
+// The reply of what reading gave: the states of the table read, or the refusal.
+fn reply_of(read: Result<Counts, Refusal>) -> Reply
+    ensures { result ≡ reading_reply read }
+{
+    match read {
+        Ok(counts) => succeeded(counts.states, 0),
+        Err(refusal) => refusal.into(),
+    }
+}
 
 pub fn mortarleaf_read_context(bytes: &[u8]) -> Reply
     ensures { ContextReplied bytes.now result }
 {
-    let read = read_context(bytes);
-    read.reply
+    reply_of(read_record(bytes, Kind::Context))
 }
 
 pub fn mortarleaf_read_specification(bytes: &[u8]) -> Reply
     ensures { SpecificationReplied bytes.now result }
 {
-    let read = read_specification(bytes);
-    read.reply
+    reply_of(read_record(bytes, Kind::Specification))
 }
 
 // The steps go into the lent next table.
@@ -29,16 +39,19 @@ pub fn mortarleaf_read_controller(bytes: &[u8], next: &mut [u16]) -> Controller
     ensures { ControllerReplied bytes.now next.old result next.new }
 {
     let read = read_controller(bytes, next);
-    let reply = read.reply;
-    let counts = read.counts;
+    let reply = reply_of(read);
+    let (u, v) = match read {
+        Ok(counts) => (counts.u, counts.v),
+        Err(_) => (0, 0),
+    };
     Controller {
         number: reply.number,
         record: reply.record,
         row: reply.row,
         states: reply.states,
         rounds: reply.rounds,
-        u: counts.u,
-        v: counts.v,
+        u,
+        v,
     }
 }
 

@@ -1,24 +1,21 @@
-use Rattle.pairs.proofs.MethodLaws.{product_fits_lem}
-use Rattle.fit.proofs.MatchLaws.{inputs_differ, outputs_differ, signals_differ, replies_differ, room_short, counts_match}
+use Rattle.std.proofs.lemmas.Result.{err_from_is_err_and}
+use Rattle.fit.proofs.MatchLaws.{outside_refuses, letters_refuse, pairs_refuse, room_decides}
 use Rattle.fit.proofs.checking.match_refusal.Goals as goal
 
-pub returns-then-c-s : goal.returns-then-c-s
-returns-then-c-s c = search inputs_differ
+pub returns-in_err-same_outside : goal.returns-in_err-same_outside
+returns-in_err-same_outside c =
+    let p = err_from_is_err_and c.from_residual.result c.from_residual.ensures.1 in
+    rw (p.1, p.2) (outside_refuses _ _ _ _ c.in_err-same_outside.ensures)
 
-pub returns-then-c-s-2 : goal.returns-then-c-s-2
-returns-then-c-s-2 c = search outputs_differ
+pub returns-in_err-same_letters : goal.returns-in_err-same_letters
+returns-in_err-same_letters c =
+    let p = err_from_is_err_and c.from_residual-in_err-same_letters.result c.from_residual-in_err-same_letters.ensures.1 in
+    rw (p.1, p.2) (letters_refuse _ _ _ c.in_ok-same_outside.ensures _ c.in_err-same_letters.ensures)
 
-pub returns-then-c-t : goal.returns-then-c-t
-returns-then-c-t c = search signals_differ
-
-pub returns-then-c-t-2 : goal.returns-then-c-t-2
-returns-then-c-t-2 c = search replies_differ
-
-pub overflow_mul-c : goal.overflow_mul-c
-overflow_mul-c c = record { fits = search product_fits_lem }
-
-pub returns-then-room-lt-SET_NUMBERS : goal.returns-then-room-lt-SET_NUMBERS
-returns-then-room-lt-SET_NUMBERS c = search room_short
+pub returns-in_err-few_pairs : goal.returns-in_err-few_pairs
+returns-in_err-few_pairs c =
+    let p = err_from_is_err_and c.from_residual-in_err-few_pairs.result c.from_residual-in_err-few_pairs.ensures.1 in
+    rw (p.1, p.2) (pairs_refuse _ _ _ c.in_ok-same_outside.ensures c.in_ok-same_letters.ensures _ c.in_err-few_pairs.ensures)
 
 pub returns : goal.returns
-returns c = search counts_match
+returns c = room_decides _ _ _ c.in_ok-same_outside.ensures c.in_ok-same_letters.ensures c.in_ok-few_pairs.ensures _ c.room.ensures
