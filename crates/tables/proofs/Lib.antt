@@ -10,7 +10,6 @@ pub mod ReadyFoldLaws
 pub mod JointLaws
 pub mod LowestLaws
 pub mod RestLaws
-pub mod RowScanLaws
 pub mod SkidReadLaws
 pub mod SkidMatchLaws
 pub mod SkidLaws
