@@ -7,7 +7,6 @@ pub mod IndexLaws
 pub mod ReadyLaws
 pub mod ReadyScanLaws
 pub mod ReadyFoldLaws
-pub mod JointLaws
 pub mod LowestLaws
 pub mod RestLaws
 pub mod SkidReadLaws
