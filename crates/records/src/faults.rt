@@ -46,15 +46,8 @@ fn is_within(counts: [u32; 6], limits: &[u16]) -> bool
     requires { length limits.now ≤ 6 }
     ensures { result ≡ in_limits (take (length limits.now) counts) limits.now }
 {
-    for k in 0..limits.len() {
-        if counts[k] < 1 {
-            return false;
-        }
-        if (limits[k] as u32) < counts[k] {
-            return false;
-        }
-    }
-    true
+    limits.iter().zip(counts.iter()).all(|(limit, count)| 1 <= *count
+        && *count <= u32::from(*limit))
 }
 
 // The counts are within the limits of the kind.

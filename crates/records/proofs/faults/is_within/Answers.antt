@@ -1,14 +1,18 @@
-use Rattle.records.proofs.LimitLaws.{count_low, count_high, count_in, counts_end}
+use mathlib.Core.Path.{◌∙◌}
+use native.Mathlib.Omega.{arith}
+use borrow.Author.Rules.{rules}
+use borrow.Author.Tests.{tests}
+use Rattle.std.proofs.lemmas.Iterator.{YieldsList-from_slice, YieldsList-from_zip}
+use Rattle.std.proofs.lemmas.Iterator.Search.{all_from_yields_List}
+use Rattle.records.proofs.LimitLaws.{limit_test, zip_limits}
 use Rattle.records.proofs.faults.is_within.Goals as goal
 
-pub returns-then-counts-k-lt1 : goal.returns-then-counts-k-lt1
-returns-then-counts-k-lt1 c = search count_low
-
-pub returns-then-limits-k : goal.returns-then-limits-k
-returns-then-limits-k c = search count_high
-
-pub loop-k-preserved : goal.loop-k-preserved
-loop-k-preserved c = search count_in
-
 pub returns : goal.returns
-returns c = search counts_end
+returns c =
+    all_from_yields_List
+    limit_test
+    c.all.new.self _ _
+    c.all.ensures.ran
+    (YieldsList-from_zip (YieldsList-from_slice c.args.limits.now (search rules)) (YieldsList-from_slice c.args.counts (search rules)))
+    (λ x b q k. search (rules, tests))
+    ∙ zip_limits c.args.counts c.args.limits.now (omega arith)
