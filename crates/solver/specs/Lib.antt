@@ -1,3 +1,4 @@
+pub mod Long
 pub mod Inside
 pub mod Matched
 pub mod Deleted

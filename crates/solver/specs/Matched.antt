@@ -10,7 +10,7 @@ use Rattle.rules.specs.Replies.{unless, ◌or_else◌}
 use Rattle.rules.specs.Tables.{specification_table}
 use Rattle.tables.specs.declared.Sizes.{Sizes}
 use Rattle.tables.specs.Inside.{Workable}
-use Rattle.solver.specs.Inside.{Long}
+use Rattle.solver.specs.Long.{Long}
 
 -- "8; 9; 10": of the counts of context and specification, and of so many lent numbers for sets and for next states
 unfoldable pub match_refusal : Counts → Counts → ℕ → ℕ → Reply

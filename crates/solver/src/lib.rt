@@ -5,6 +5,7 @@
 // tested once, and once more after each round in which it lost a step.
 #![tactic(auto)]
 
+mod buffers; // the lent numbers, with room for every answer
 mod deletion; // rounds that delete the states that do not pass
 mod discovery; // the sets reached, numbered by first discovery
 pub mod entry; // what the configurator takes, with the contract of the entry for C

@@ -5,10 +5,12 @@ ghost use Rattle.answers.specs.Solve.{solution, Solved, SolvedFor};
 ghost use Rattle.tables.specs.Inside.{skid_in, Workable};
 ghost use Rattle.tables.specs.Ready.{ready_skid};
 ghost use Rattle.tables.specs.Skids.{SkidRead};
-ghost use Rattle.solver.specs.Inside.{Long, Answered};
+ghost use Rattle.solver.specs.Long.{Long};
+ghost use Rattle.solver.specs.Inside.{Answered, AnsweredIn};
 ghost use Rattle.solver.specs.Matched.{match_refusal, Matched};
 
 use super::answer_reply;
+use super::buffers::Buffers;
 use super::discovery::plain;
 use super::unblocked::unblocked;
 use answers::{Answer, Wanted, mode_of};
@@ -44,14 +46,12 @@ fn match_refusal(c: Counts, s: Counts, sets: usize, next: usize) -> Reply
 }
 
 // The answer that is wanted.
-fn solve_wanted(wanted: Wanted, skid: &ReadySkid, sets: &mut [u64], next: &mut [u16]) -> Answer
-    requires { Long sets.old next.old }
-    ensures { Answered (solution wanted (ready_skid skid.now)) result
-        sets.new next.new sets.old next.old }
+fn solve_wanted(wanted: Wanted, skid: &ReadySkid, lent: &mut Buffers) -> Answer
+    ensures { AnsweredIn (solution wanted (ready_skid skid.now)) result lent.new lent.old }
 {
     match wanted {
-        Wanted::Plain => plain(skid, sets, next),
-        Wanted::Unblocked => unblocked(skid, sets, next),
+        Wanted::Plain => plain(skid, lent),
+        Wanted::Unblocked => unblocked(skid, lent.sets, lent.next),
     }
 }
 
@@ -76,7 +76,8 @@ fn solve_tables(
         specification,
         sizes,
     };
-    solve_wanted(wanted, &skid, sets, next)
+    let mut lent = Buffers { sets, next };
+    solve_wanted(wanted, &skid, &mut lent)
 }
 
 // The same of two records that match: the specification becomes a next table.
