@@ -1,65 +1,60 @@
 -- Refusals 8, 9 and 10, one test after the other: the first that fails gives the reply.
 -- Assumes nothing.
-use mathlib.Core.Path.{◌≡◌, refl, sym, ◌∙◌}
-use mathlib.Core.Logic.{◌≢◌}
+use Rattle.std.specs.Prelude.{Result, Ok, Err}
+use mathlib.Core.Path.{◌≡◌, refl, sym, ap, ◌∙◌}
+use mathlib.Core.Bool.{Bool, true, false, ◌&&◌}
 use mathlib.Core.List.{List}
-use Prim.Native.Nat.{ℕ, ◌*◌, ◌≤◌, ◌<◌}
+use Prim.Native.Nat.{ℕ}
+use lib.Dec.{leb}
 use lib.ListN.{length}
-use borrow.Author.Tests.{eq-eqb, ne_eqb, le-leb, lt-leb}
-use Rattle.pairs.specs.Sets.{pair_limit}
 use Rattle.pairs.specs.Lent.{set_size}
-use Rattle.rules.specs.declared.Reply.{Reply}
-use Rattle.rules.specs.declared.Counts.{Counts}
+use Rattle.rules.specs.declared.Refusal.{Refusal}
+use Rattle.rules.specs.declared.Refusal.TheVariants.{Room}
 use Rattle.rules.specs.Limits.{state_limit, set_numbers, next_numbers}
 use Rattle.rules.specs.Counts.{context_counts, specification_counts}
-use Rattle.rules.specs.Replies.{success, refusal, unless, ◌or_else◌}
+use Rattle.rules.specs.Replies.{unless, ◌or_else◌, refusal_reply}
 use Rattle.rules.specs.Matching.{skid_refusal, outside_agree, outside_refusal, product_fits, product_refusal}
 use Rattle.answers.specs.Solve.{solve_refusal}
-use Rattle.solver.specs.Matched.{match_refusal}
+use Rattle.tables.specs.declared.skids.SkidCounts.{SkidCounts}
+use Rattle.tables.specs.Skids.{ok_if, outcome_reply, OutsideMatched, PairsFew, RoomFound}
+use Rattle.tables.proofs.SkidMatchLaws.{refused_first, fine_first, outside_told, pairs_told}
+use Rattle.solver.specs.Matched.{match_refusal, Matching}
 
-module _ (c s : Counts) (sets_room next_room : ℕ) (r : Reply) where
-  pub inputs_differ : c.i ≢ s.i → r ≡ refusal 8 2 0 0 → r ≡ match_refusal c s sets_room next_room
-  unfolding match_refusal ◌or_else◌ unless
-  inputs_differ h e = e ∙ sym (rw (ne_eqb c.i s.i h))
+-- ---- 10 is one refusal of two tests
+room_first : (b c : Bool) (r : Refusal) → Err r ≡ ok_if b Room → refusal_reply r ≡ unless (b && c) 10 0
+unfolding ok_if unless
+room_first true c r e = absurd cc
+room_first false c r e = let same : r ≡ Room = cc in ap refusal_reply same
 
-  module _ (ei : c.i ≡ s.i) where
-    pub outputs_differ : c.o ≢ s.o → r ≡ refusal 8 2 0 0 → r ≡ match_refusal c s sets_room next_room
-    unfolding match_refusal ◌or_else◌ unless
-    outputs_differ h e = e ∙ sym (rw (eq-eqb c.i s.i ei, ne_eqb c.o s.o h))
+room_second : (b c : Bool) (u : Unit) (r : Result Unit Refusal) → Ok u ≡ ok_if b Room → r ≡ ok_if c Room → outcome_reply r ≡ unless (b && c) 10 0
+unfolding ok_if unless
+room_second true true u r p e = ap outcome_reply e
+room_second true false u r p e = ap outcome_reply e
+room_second false true u r p e = absurd cc
+room_second false false u r p e = absurd cc
 
-    module _ (eo : c.o ≡ s.o) where
-      pub product_over : 64 < c.states * s.states → r ≡ refusal 9 0 0 0 → r ≡ match_refusal c s sets_room next_room
-      unfolding match_refusal ◌or_else◌ unless pair_limit
-      product_over h e = e ∙ sym (rw (eq-eqb c.i s.i ei, eq-eqb c.o s.o eo, lt-leb (c.states * s.states) 64 h))
+module _ (k : SkidCounts) (sets next : ℕ) where
+  pub outside_refused : (r : Refusal) → OutsideMatched k (Err r) → Matching k sets next (Err r)
+  unfolding match_refusal
+  outside_refused r e = refused_first r _ _ (outside_told k (Err r) e)
 
-      module _ (product : c.states * s.states ≤ 64) where
-        pub sets_short : sets_room < 512 → r ≡ refusal 10 0 0 0 → r ≡ match_refusal c s sets_room next_room
-        unfolding match_refusal ◌or_else◌ unless pair_limit set_numbers state_limit set_size
-        sets_short h e =
-            e ∙ sym (rw (eq-eqb c.i s.i ei, eq-eqb c.o s.o eo, le-leb (c.states * s.states) 64 product, lt-leb 512 sets_room h))
+  module _ (u : Unit) (same : OutsideMatched k (Ok u)) where
+    pub pairs_refused : (r : Refusal) → PairsFew k (Err r) → Matching k sets next (Err r)
+    unfolding match_refusal
+    pairs_refused r e = refused_first r _ _ (pairs_told k (Err r) e) ∙ sym (fine_first _ _ (outside_told k (Ok u) same))
 
-        module _ (enough : 512 ≤ sets_room) where
-          pub next_short : next_room < 8192 → r ≡ refusal 10 0 0 0 → r ≡ match_refusal c s sets_room next_room
-          unfolding match_refusal ◌or_else◌ unless pair_limit set_numbers state_limit set_size next_numbers
-          next_short h e =
-              e ∙ sym (rw (
-                eq-eqb c.i s.i ei,
-                eq-eqb c.o s.o eo,
-                le-leb (c.states * s.states) 64 product,
-                le-leb 512 sets_room enough,
-                lt-leb 8192 next_room h,
-              ))
+    module _ (v : Unit) (few : PairsFew k (Ok v)) where
+      so_far : match_refusal k.context k.specification sets next ≡ unless (leb set_numbers sets && leb next_numbers next) 10 0
+      unfolding match_refusal
+      so_far = fine_first _ _ (outside_told k (Ok u) same) ∙ fine_first _ _ (pairs_told k (Ok v) few)
 
-          pub counts_match : 8192 ≤ next_room → r ≡ success 0 0 → r ≡ match_refusal c s sets_room next_room
-          unfolding match_refusal ◌or_else◌ unless pair_limit set_numbers state_limit set_size next_numbers
-          counts_match h e =
-              e ∙ sym (rw (
-                eq-eqb c.i s.i ei,
-                eq-eqb c.o s.o eo,
-                le-leb (c.states * s.states) 64 product,
-                le-leb 512 sets_room enough,
-                le-leb 8192 next_room h,
-              ))
+      pub sets_refused : (r : Refusal) → RoomFound sets 512 (Err r) → Matching k sets next (Err r)
+      unfolding set_numbers state_limit set_size
+      sets_refused r e = room_first (leb 512 sets) (leb next_numbers next) r e ∙ sym so_far
+
+      pub next_decides : (w : Unit) → RoomFound sets 512 (Ok w) → (r : Result Unit Refusal) → RoomFound next 8192 r → Matching k sets next r
+      unfolding set_numbers state_limit set_size next_numbers
+      next_decides w there r e = room_second (leb 512 sets) (leb 8192 next) w r there e ∙ sym so_far
 
 -- these are the refusals of solving after those of the records
 pub solve_refusal_lem : (context specification sets next : List ℕ) → solve_refusal context specification sets next

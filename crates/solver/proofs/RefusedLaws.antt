@@ -1,51 +1,43 @@
 -- Solving refused, for whatever answer is wanted: the first refusal is the reply, and the lent buffers are as they were.
 -- Assumes nothing.
+use Rattle.std.specs.Prelude.{Result, Ok, Err}
 use mathlib.Core.Path.{◌≡◌, sym, ◌∙◌}
-use mathlib.Core.Logic.{◌≢◌}
 use mathlib.Core.List.{List}
 use Prim.Native.Nat.{ℕ}
 use lib.ListN.{length}
-use Rattle.rules.specs.declared.Reply.{Reply}
-use Rattle.rules.specs.declared.Counts.{Counts}
+use Rattle.rules.specs.declared.Refusal.{Refusal}
 use Rattle.rules.specs.Counts.{context_counts, specification_counts}
-use Rattle.rules.specs.Replies.{◌or_else◌}
-use Rattle.rules.specs.Matching.{skid_refusal}
+use Rattle.rules.specs.Replies.{refusal_reply}
 use Rattle.answers.specs.declared.Wanted.{Wanted}
 use Rattle.answers.specs.Solve.{solve_refusal, solve_for, SolvedFor}
-use Rattle.tables.specs.declared.skids.SkidReading.{SkidReading}
-use Rattle.tables.specs.Skids.{skid_reading, SkidRead}
-use Rattle.tables.proofs.SkidReadLaws.{bad_refuses, skid_refused, skid_fine}
-use Rattle.solver.specs.Matched.{match_refusal}
+use Rattle.tables.specs.declared.skids.SkidCounts.{SkidCounts}
+use Rattle.tables.specs.Skids.{skid_reading, outcome_reply, SkidRead}
+use Rattle.tables.proofs.SkidReadLaws.{skid_read, skid_refused, skid_passes}
+use Rattle.tables.proofs.SkidMatchLaws.{refusal_refuses, refused_first, fine_first}
+use Rattle.solver.specs.Matched.{match_refusal, Matching}
 use Rattle.solver.proofs.MatchLaws.{solve_refusal_lem}
 
 -- what is found of the counts that were read is found of those of the records
-pub match_told : (context specification : List ℕ) (sets next : ℕ) (c s : Counts) → SkidRead context specification c s → (found : Reply)
-    → found ≡ match_refusal c s sets next → found ≡ match_refusal (context_counts context) (specification_counts specification) sets next
-match_told context specification sets next c s skid found e = e ∙ rw (skid.context_counts_lem, skid.specification_counts_lem)
+pub match_told : (context specification : List ℕ) (sets next : ℕ) (k : SkidCounts) → SkidRead context specification k → (r : Result Unit Refusal)
+    → Matching k sets next r → outcome_reply r ≡ match_refusal (context_counts context) (specification_counts specification) sets next
+match_told context specification sets next k skid r e = e ∙ rw skid.counts_are
 
-module _ (w : Wanted) (context specification sets next : List ℕ) where
+module _ (w : Wanted) (context specification sets next : List ℕ) (r : Refusal) where
   -- "on other refusals nothing is written"
-  stays : (r : Reply) → r.number ≢ 0
-      → (skid_refusal context specification or_else match_refusal (context_counts context) (specification_counts specification) (length sets) (length next)) ≡ r
-      → SolvedFor w context specification sets next r sets next
+  stays : refusal_reply r ≡ solve_refusal context specification sets next → SolvedFor w context specification sets next (refusal_reply r) sets next
   unfolding solve_for
-  stays r bad e =
-      let refused : solve_refusal context specification sets next ≡ r = solve_refusal_lem context specification sets next ∙ e in
-      record {
-        reply_is = sym (rw (refused, bad_refuses r bad));
-        sets_are = sym (rw (refused, bad_refuses r bad));
-        next_is = sym (rw (refused, bad_refuses r bad));
-      }
+  stays e = record {
+    reply_is = sym (rw (← e, refusal_refuses r));
+    sets_are = sym (rw (← e, refusal_refuses r));
+    next_is = sym (rw (← e, refusal_refuses r));
+  }
 
-  pub skid_stays : (read : SkidReading) → read ≡ skid_reading context specification → read.reply.number ≢ 0 → SolvedFor w context specification sets next read.reply sets next
-  unfolding ◌or_else◌
-  skid_stays read read_is bad =
-      let e = skid_refused context specification read read_is bad in
-      stays read.reply bad (rw (← e, bad_refuses read.reply bad))
+  pub skid_stays : Err r ≡ skid_reading context specification → SolvedFor w context specification sets next (refusal_reply r) sets next
+  skid_stays e = stays (refused_first r _ _ (skid_refused context specification r e) ∙ sym (solve_refusal_lem context specification sets next))
 
-  pub match_stays : (c s : Counts) → SkidRead context specification c s → (found : Reply) → found ≡ match_refusal c s (length sets) (length next)
-      → found.number ≢ 0 → SolvedFor w context specification sets next found sets next
-  unfolding ◌or_else◌
-  match_stays c s skid found found_is bad =
-      let told = match_told context specification (length sets) (length next) c s skid found found_is in
-      stays found bad (rw (skid_fine context specification c s skid, ← told))
+  pub match_stays : (k : SkidCounts) → Ok k ≡ skid_reading context specification → Matching k (length sets) (length next) (Err r)
+      → SolvedFor w context specification sets next (refusal_reply r) sets next
+  match_stays k read found =
+      let skid = skid_read context specification k read in
+      stays (match_told context specification (length sets) (length next) k skid (Err r) found
+      ∙ sym (fine_first _ _ (skid_passes context specification k skid)) ∙ sym (solve_refusal_lem context specification sets next))

@@ -1,48 +1,32 @@
 // The answer of two records, by mode or by name: they are read, refused or matched, and solved.
-ghost use Rattle.std.specs.Prelude.{◌≡◌};
 ghost use Rattle.rules.specs.Tables.{specification_table};
 ghost use Rattle.answers.specs.Solve.{solution, Solved, SolvedFor};
 ghost use Rattle.tables.specs.Inside.{skid_in, Workable};
 ghost use Rattle.tables.specs.Ready.{ready_skid};
-ghost use Rattle.tables.specs.Skids.{SkidRead};
 ghost use Rattle.solver.specs.Long.{Long};
 ghost use Rattle.solver.specs.Inside.{Answered, AnsweredIn};
-ghost use Rattle.solver.specs.Matched.{match_refusal, Matched};
+ghost use Rattle.solver.specs.Matched.{Matching, Matched, reply_of};
 
 use super::answer_reply;
 use super::buffers::Buffers;
 use super::discovery::plain;
 use super::unblocked::unblocked;
 use answers::{Answer, Wanted, mode_of};
-use pairs::PAIR_LIMIT;
 use records::tables::fill_specification;
-use rules::{Counts, NEXT_NUMBERS, Reply, SET_NUMBERS, STATE_LIMIT, refused, succeeded};
+use rules::{NEXT_NUMBERS, Refusal, Reply, SET_NUMBERS, STATE_LIMIT};
 use tables::ready::ReadySkid;
 use tables::rows::index_rows;
-use tables::skids::{read_skid, sizes_of};
+use tables::skids::{SkidCounts, read_skid, room, sizes_of};
 use tables::{INDEX, SPECIFICATION_NUMBERS, Sizes};
 
-// Refusals 8, 9 and 10 of two records that were read: of the counts of context and specification, and of so many lent numbers.
-#[tactic(auto, using(crate::proofs::MatchLaws::product_over, crate::proofs::MatchLaws::next_short))]
-fn match_refusal(c: Counts, s: Counts, sets: usize, next: usize) -> Reply
-    ensures { result ≡ match_refusal c s sets next }
+// Refusals 8, 9 and 10 of two records that were read, with these counts, and of so many lent numbers.
+fn match_counts(k: &SkidCounts, sets: usize, next: usize) -> Result<(), Refusal>
+    ensures { Matching k.now sets next result }
 {
-    if c.i != s.i {
-        return refused(8, 2);
-    }
-    if c.o != s.o {
-        return refused(8, 2);
-    }
-    if PAIR_LIMIT < c.states as u64 * s.states as u64 {
-        return refused(9, 0);
-    }
-    if sets < SET_NUMBERS {
-        return refused(10, 0);
-    }
-    if next < NEXT_NUMBERS {
-        return refused(10, 0);
-    }
-    succeeded(0, 0)
+    k.same_outside()?;
+    k.few_pairs()?;
+    room(sets, SET_NUMBERS)?;
+    room(next, NEXT_NUMBERS)
 }
 
 // The answer that is wanted.
@@ -55,7 +39,7 @@ fn solve_wanted(wanted: Wanted, skid: &ReadySkid, lent: &mut Buffers) -> Answer
     }
 }
 
-// The same of a context's record and a specification's next table: the rows of each context state are found first, and the skid is ready.
+// The same of a context's record and a specification's next table: the rows of each context state are found first, and skid and buffers are ready.
 fn solve_tables(
     wanted: Wanted,
     context: &[u8],
@@ -99,27 +83,21 @@ fn solve_matched(
     solve_tables(wanted, context, &table[..size], sizes, sets, next)
 }
 
-// The answer of two records that were read, with these counts.
-fn solve_read(
+// The answer of two records, or the refusal, at which nothing is written.
+fn solve_records(
     wanted: Wanted,
     context: &[u8],
     specification: &[u8],
-    c: Counts,
-    s: Counts,
     sets: &mut [u64],
     next: &mut [u16],
-) -> Reply
-    requires { SkidRead context.now specification.now c s }
-    ensures { SolvedFor wanted context.now specification.now sets.old next.old result
+) -> Result<Answer, Refusal>
+    ensures { SolvedFor wanted context.now specification.now sets.old next.old (reply_of result)
         sets.new next.new }
 {
-    let found = match_refusal(c, s, sets.len(), next.len());
-    if found.number != 0 {
-        return found;
-    }
-    let sizes = sizes_of(c, s, STATE_LIMIT as usize);
-    let answer = solve_matched(wanted, context, specification, sizes, sets, next);
-    answer_reply(answer)
+    let k = read_skid(context, specification)?;
+    match_counts(&k, sets.len(), next.len())?;
+    let sizes = sizes_of(k.context, k.specification, STATE_LIMIT as usize);
+    Ok(solve_matched(wanted, context, specification, sizes, sets, next))
 }
 
 // The answer of two records. Numbers are written where the reply is 0, 11 or 12, else none.
@@ -133,20 +111,10 @@ pub fn solve_for(
     ensures { SolvedFor wanted context.now specification.now sets.old next.old result
         sets.new next.new }
 {
-    let read = read_skid(context, specification);
-    let reply = read.reply;
-    if reply.number != 0 {
-        return reply;
+    match solve_records(wanted, context, specification, sets, next) {
+        Ok(answer) => answer_reply(answer),
+        Err(refusal) => Reply::from(refusal),
     }
-    solve_read(
-        wanted,
-        context,
-        specification,
-        read.context,
-        read.specification,
-        sets,
-        next,
-    )
 }
 
 // The answer that a mode asks for, of two records. An unknown mode is refused before the records are looked at.
@@ -161,7 +129,7 @@ pub fn solve(
         sets.new next.new }
 {
     let Some(wanted) = mode_of(mode) else {
-        return refused(13, 0);
+        return Reply::from(Refusal::Mode);
     };
     solve_for(wanted, context, specification, sets, next)
 }
