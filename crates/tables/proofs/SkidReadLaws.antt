@@ -5,6 +5,7 @@ use mathlib.Core.Path.{◌≡◌, refl, sym, ap, ◌∙◌}
 use mathlib.Core.Bool.{false}
 use mathlib.Core.List.{List}
 use Prim.Native.Nat.{ℕ}
+use Rattle.std.proofs.lemmas.Result.{err_from_is_err_and}
 use Rattle.rules.specs.declared.Counts.{Counts}
 use Rattle.rules.specs.declared.Fault.{Fault}
 use Rattle.rules.specs.declared.Refusal.{Refusal}
@@ -95,3 +96,6 @@ module _ (context specification : List ℕ) where
 
   pub skid_passes : (k : SkidCounts) → SkidRead context specification k → fine ≡ skid_refusal context specification
   skid_passes k skid = ap outcome_reply (skid_counted k skid) ∙ skid_replied
+
+-- what `read_skid` needs: an error that `?` hands on stays the same
+pub ruleset skid_reads = (err_from_is_err_and, context_refused, specification_refused, both_legal)

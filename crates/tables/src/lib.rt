@@ -3,12 +3,12 @@
 #![tactic(auto)]
 
 pub mod discovery; // the states that a next table reaches, numbered by first discovery
+pub mod ready; // a skid made ready, with what its parts have in common
 pub mod rows; // rows of the context: the specification's step by a row, and which rows a state has
-pub mod skids; // the two records of a skid, and their counts side by side
+pub mod skids; // the two records of a skid: read, their counts side by side, and refused where they do not match
 pub mod steps; // a next table, by state and letter
 pub mod usable; // what each state of a next table is asked: a row for each u, a continuation for each i
 pub mod zeros; // zeros behind what was written
-pub mod ready; // a skid made ready, with what its parts have in common
 
 // The largest specification: 64 states, 8 i and 8 o.
 pub const SPECIFICATION_NUMBERS: usize = 4096;

@@ -14,7 +14,7 @@ pub struct SkidCounts {
 }
 
 // Refusals 1 to 7 of the context, then of the specification.
-#[tactic(auto, using(std::proofs::lemmas::Result::err_from_is_err_and, crate::proofs::SkidReadLaws::context_refused, crate::proofs::SkidReadLaws::specification_refused, crate::proofs::SkidReadLaws::both_legal,))]
+#[tactic(auto, using(crate::proofs::SkidReadLaws::skid_reads))]
 pub fn read_skid(context: &[u8], specification: &[u8]) -> Result<SkidCounts, Refusal>
     ensures { RecordsRead context.now specification.now result }
 {
@@ -71,6 +71,6 @@ pub fn sizes_of(c: Counts, s: Counts, states: usize) -> Sizes
         steps: c.i as usize * c.o as usize,
         contexts: c.states as usize,
         specifications: s.states,
-        states: states,
+        states,
     }
 }
