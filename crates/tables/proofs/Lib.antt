@@ -18,6 +18,5 @@ pub mod ContinueLaws
 pub mod UsableLaws
 pub mod Determined
 pub mod RowLaws
-pub mod RowFoldLaws
 pub mod MemberFoldLaws
 pub mod PairsLaws

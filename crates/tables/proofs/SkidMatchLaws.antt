@@ -1,4 +1,4 @@
--- Refusals 8, 9 and 10 of two records that were read: each test refuses as the definition says of the bytes, and where it does not, what it asks holds.
+-- Refusals 8, 9 and 10 of two records that were read: each test refuses as the definition says of the bytes.
 -- Assumes nothing.
 use Rattle.std.specs.Prelude.{Result, Ok, Err, if◌then◌else◌}
 use mathlib.Core.Path.{◌≡◌, refl, ap, ◌∙◌}
@@ -7,7 +7,7 @@ use mathlib.Core.Bool.{Bool, true, false, ◌&&◌, not}
 use mathlib.Core.List.{List}
 use Prim.Native.Nat.{ℕ, ◌*◌, ◌≤◌, ◌<◌}
 use lib.Dec.{leb, eqb}
-use borrow.Author.Tests.{eq-eqb, ne_eqb, le-leb, lt-leb, leb-true}
+use borrow.Author.Tests.{eq-eqb, ne_eqb, le-leb, lt-leb}
 use Rattle.pairs.specs.Sets.{pair_limit}
 use Rattle.rules.specs.declared.Reply.{Reply}
 use Rattle.rules.specs.declared.Refusal.{Refusal}
@@ -55,11 +55,6 @@ unfolding ok_if
 test_replied true r = refl
 test_replied false r = refl
 
-passed : (test : Bool) (r : Refusal) (u : Unit) → Ok u ≡ ok_if test r → test ≡ true
-unfolding ok_if
-passed true r u e = refl
-passed false r u e = absurd cc
-
 -- ---- 8, as the code asks it
 module _ (k : SkidCounts) where
   pub inputs_differ : k.context.i ≢ k.specification.i → OutsideMatched k (Err (Codes Specification))
@@ -95,17 +90,9 @@ module _ (k : SkidCounts) where
     unfolding outside_refusal outside_agree
     outside_replied r e = rw skid.counts_are at (outside_told r e)
 
-    pub outside_same : (u : Unit) → OutsideMatched k (Ok u) → outside_agree context specification ≡ true
-    unfolding outside_agree
-    outside_same u e = rw skid.counts_are at (passed (eqb k.context.i k.specification.i && eqb k.context.o k.specification.o) (Codes Specification) u e)
-
     pub pairs_replied : (r : Result Unit Refusal) → PairsFew k r → outcome_reply r ≡ product_refusal context specification
     unfolding product_refusal product_fits
     pairs_replied r e = rw skid.counts_are at (pairs_told r e)
-
-    pub pairs_fit : (u : Unit) → PairsFew k (Ok u) → product_fits context specification ≡ true
-    unfolding product_fits
-    pairs_fit u e = rw skid.counts_are at (passed (leb (k.context.states * k.specification.states) pair_limit) Pairs u e)
 
 -- ---- 10
 module _ (lent needed : ℕ) where
@@ -118,6 +105,3 @@ module _ (lent needed : ℕ) where
   pub room_told : (r : Result Unit Refusal) → RoomFound lent needed r → outcome_reply r ≡ unless (leb needed lent) 10 0
   unfolding unless
   room_told r e = ap outcome_reply e ∙ test_replied (leb needed lent) Room
-
-  pub room_there : (u : Unit) → RoomFound lent needed (Ok u) → needed ≤ lent
-  room_there u e = leb-true needed lent (passed _ Room u e)
