@@ -35,7 +35,7 @@ fn solve_wanted(wanted: Wanted, skid: &ReadySkid, lent: &mut Buffers) -> Answer
 {
     match wanted {
         Wanted::Plain => plain(skid, lent),
-        Wanted::Unblocked => unblocked(skid, lent.sets, lent.next),
+        Wanted::Unblocked => unblocked(skid, lent),
     }
 }
 
