@@ -21,8 +21,6 @@ use Rattle.records.specs.Inside.{Held, LaidOut}
 pub record Laid (l : Layout) : Type 0 where
   pub key_some : 1 ≤ l.key_size
   pub key_within : l.key_size ≤ length l.field_sizes
-  pub few_fields : length l.field_sizes ≤ 6
-  pub few_counts : length l.count_sizes ≤ 6
   pub limit_each : length l.limits ≡ length l.count_sizes
   pub below_each : length l.below ≡ length l.field_sizes
   pub rows_few : l.row_limit < 65536

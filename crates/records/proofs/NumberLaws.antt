@@ -1,4 +1,4 @@
--- What the functions that read numbers need: a byte that is not there counts as 0, numbers of one and two bytes, and an array of six that is
+-- What the functions that read numbers need: numbers of one and two bytes, and an array of six that is
 -- filled number by number.
 -- Assumes nothing.
 use Rattle.std.specs.Prelude.{if◌then◌else◌}
@@ -10,7 +10,7 @@ use Prim.Native.Nat.{ℕ, zero, suc, ◌+◌, ◌-◌, ◌*◌, ◌^◌, ◌≤�
 use native.Mathlib.Nat.{not-suc-le-zero, le_of_suc-le-suc, add-zero}
 use native.Mathlib.Omega.{arith}
 use lib.Dec.{leb, eqb, leb→le}
-use lib.ListN.{length, get_or, take, drop, set, replicate, length-take, length-replicate, length-append, get_or-eq_default}
+use lib.ListN.{length, get_or, take, drop, set, replicate, length-take, length-replicate, length-append}
 use lib.Pointwise.{pointwise}
 use lib.Seq.{take_at, take-length, get_or-drop, drop-drop, get_or-set_same, get_or-set_other}
 use borrow.Author.Tests.{eqb-true, eqb-false}
@@ -34,9 +34,6 @@ pointwise_same (x ∷ xs) (y ∷ ys) = go (eqb x y) (pointwise_same xs ys)
     go : (t : Bool) → pointwise eqb xs ys ≡ same xs ys → (t && pointwise eqb xs ys) ≡ (if t then same xs ys else false)
     go true e = e
     go false e = refl
-
-pub no_byte : (b : List ℕ) (at : ℕ) → length b ≤ at → 0 ≡ get_or b at 0
-no_byte b at h = sym (get_or-eq_default b 0 h)
 
 -- a number of one byte, and of two
 pub little_one : (b : List ℕ) → little 1 b ≡ get_or b 0 0

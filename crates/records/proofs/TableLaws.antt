@@ -1,16 +1,15 @@
--- What the functions need that fill next tables: a part of a buffer painted with one number, and rows entered one after the other.
+-- What the functions need that fill next tables: rows entered one after the other.
 -- Assumes nothing.
 use mathlib.Core.Path.{◌≡◌, refl, sym, ap, ◌∙◌}
-use mathlib.Core.List.{List, [], ◌∷◌, ◌++◌, foldl, append_assoc, append-nil}
-use Prim.Native.Nat.{ℕ, suc, ◌+◌, ◌-◌, ◌*◌, ◌^◌, ◌≤◌, ◌<◌}
-use native.Mathlib.Nat.{sub_self, mul-le-mul}
+use mathlib.Core.List.{List, [], ◌++◌, foldl}
+use Prim.Native.Nat.{ℕ, ◌+◌, ◌*◌, ◌^◌, ◌≤◌, ◌<◌}
+use native.Mathlib.Nat.{mul-le-mul}
 use native.Mathlib.Numerals.{add-one}
 use native.Mathlib.Omega.{arith}
-use lib.ListN.{length, get_or, take, drop, set, replicate, length-append, length-replicate, length-drop, length-set, take-append-drop, replicate-append-replicate, drop_of_length-le}
-use lib.Seq.{length-take-le, drop-cons, set_at, set_out, append_snoc, take_at, drop_at, drop-drop, get_or-drop}
+use lib.ListN.{length, get_or, take, drop, replicate, length-replicate, length-set, drop_of_length-le}
+use lib.Seq.{length-take-le, drop-cons, set_out, take_at, drop_at, drop-drop, get_or-drop}
 use borrow.Author.Tests.{le-leb, lt-leb}
-use Rattle.pairs.specs.Lent.{filled, zeroed_from}
-use Rattle.pairs.proofs.Zeroed.{zeroed_there}
+use Rattle.pairs.specs.Lent.{filled}
 use Rattle.rules.specs.declared.Counts.{Counts}
 use Rattle.rules.specs.declared.Kind.TheVariants.{Specification}
 use Rattle.rules.specs.Limits.{absent}
@@ -25,63 +24,6 @@ use Rattle.records.proofs.NumberLaws.{little_one}
 use Rattle.records.proofs.LookupLaws.{held_at}
 use Rattle.rules.proofs.ByPlace.{rows_there}
 use Rattle.rules.proofs.NextTables.{table_length}
-
--- the number v from place a up to place i
-unfoldable pub painted : ℕ → ℕ → ℕ → List ℕ → List ℕ
-painted v a i s = take a s ++ replicate (i - a) v ++ drop i s
-
-pub record Painted (v a n : ℕ) (s₀ s : List ℕ) (i : ℕ) : Type 0 where
-  pub begun : a ≤ i
-  pub within : i ≤ n
-  pub room : n ≤ length s₀
-  pub so_far : s ≡ painted v a i s₀
-
-pub painted_none : (v a n : ℕ) (s : List ℕ) → a ≤ n → n ≤ length s → Painted v a n s s a
-unfolding painted
-painted_none v a n s h k = record { begun = omega arith; within = h; room = k; so_far = sym (rw (sub_self, append-nil) (take-append-drop a s)) }
-
-module _ (v a n : ℕ) (s₀ s : List ℕ) (i : ℕ) (p : Painted v a n s₀ s i) where
-  before_length : length (take a s₀) ≡ a
-  before_length = length-take-le a s₀ (omega (arith, p.begun, p.within, p.room))
-
-  front_length : length (take a s₀ ++ replicate (i - a) v) ≡ i
-  front_length = rw (length-append, length-replicate, before_length) (omega (arith, p.begun))
-
-  pub painted_length : length s ≡ length s₀
-  unfolding painted
-  painted_length = ap length p.so_far ∙ rw (length-append, front_length, length-drop) (omega (arith, p.within, p.room))
-
-  pub painted_inside : i < n → i < length s
-  painted_inside h = rw painted_length (omega (arith, p.room))
-
-  pub painted_more : i < n → Painted v a n s₀ (set s i v) (i + 1)
-  unfolding painted
-  painted_more h = record { begun = omega (arith, p.begun); within = omega arith; room = p.room; so_far = more }
-    where
-      more : set s i v ≡ take a s₀ ++ replicate (i + 1 - a) v ++ drop (i + 1) s₀
-      more =
-          let m : i + 1 - a ≡ i - a + 1 = omega (arith, p.begun) in
-          ap (λ x. set x i v) p.so_far
-          ∙ ap (λ x. set (take a s₀ ++ replicate (i - a) v ++ x) i v) (drop-cons s₀ i 0 (omega (arith, p.room)))
-          ∙ set_at (take a s₀ ++ replicate (i - a) v) _ (drop (suc i) s₀) v i front_length
-          ∙ sym (append_snoc (take a s₀ ++ replicate (i - a) v) v (drop (suc i) s₀))
-          ∙ rw (m, ← replicate-append-replicate {A = ℕ} (i - a) 1 v, add-one i, append_assoc (take a s₀) (replicate (i - a) v) (v ∷ []))
-
--- all places, and those up to place n
-pub painted_all : (v : ℕ) (s₀ s : List ℕ) (i : ℕ) → Painted v 0 (length s₀) s₀ s i → length s₀ ≤ i → s ≡ replicate (length s₀) v
-unfolding painted
-painted_all v s₀ s i p h =
-    let e : i - 0 ≡ length s₀ = omega (arith, p.within) in
-    p.so_far ∙ rw (e, drop_of_length-le s₀ h, append-nil)
-
-painted_up : (a n : ℕ) (s₀ s : List ℕ) (i : ℕ) → Painted 0 a n s₀ s i → n ≤ i → s ≡ filled n (take a s₀) s₀
-unfolding painted filled
-painted_up a n s₀ s i p h =
-    let e : i ≡ n = omega (arith, p.within) in
-    p.so_far ∙ rw (before_length 0 a n s₀ s i p, e)
-
-pub zeroed_up : (a n : ℕ) (s₀ s : List ℕ) (i : ℕ) → Painted 0 a n s₀ s i → n ≤ i → s ≡ zeroed_from n a s₀
-zeroed_up a n s₀ s i p h = painted_up a n s₀ s i p h ∙ sym (zeroed_there n a s₀ p.room (omega (arith, p.begun, p.within)))
 
 -- ---- the place of a step fits
 block_few : (m n : ℕ) → m < 65536 → n < 65536 → m * n ≤ 4294836225

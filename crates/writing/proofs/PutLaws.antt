@@ -1,4 +1,4 @@
--- What putting bytes into a buffer needs: stores at its front, a part of it that is lent, the rows' bytes with one place more, and a whole record.
+-- What putting bytes into a buffer needs: a part of it that is lent, the rows' bytes with one place more, and a whole record.
 -- Assumes nothing.
 use Rattle.std.specs.Prelude.{if◌then◌else◌}
 use Rattle.std.specs.Int.{w16, to_le_bytes}
@@ -6,11 +6,11 @@ use mathlib.Core.Path.{◌≡◌, refl, sym, ap, ◌∙◌}
 use mathlib.Core.Bool.{Bool, true, false}
 use mathlib.Core.List.{List, [], ◌∷◌, ◌++◌, flat_map, append_assoc, append-nil}
 use Prim.Native.Nat.{ℕ, suc, ◌+◌, ◌-◌, ◌*◌, ◌/◌, ◌%◌, ◌^◌, ◌≤◌, ◌<◌}
-use native.Mathlib.Nat.{zero-add, add-zero, mul_comm, mul-le-mul, mul-pos, div-div-eq-div-mul}
+use native.Mathlib.Nat.{add-zero, mul_comm, mul-le-mul, mul-pos, div-div-eq-div-mul}
 use native.Mathlib.Omega.{arith}
 use lib.Dec.{eqb}
 use lib.ListN.{length, get_or, take, drop, length-append, length-drop, drop_of_length-le, take-append-drop}
-use lib.Seq.{sets, sets-eq, take_at, drop_at, take_all, take-length, drop-drop}
+use lib.Seq.{take_at, drop_at, take_all, take-length, drop-drop}
 use borrow.Author.Tests.{eqb-true, eqb-false}
 use Rattle.rules.specs.Limits.{absent}
 use Rattle.rules.specs.Layouts.{controller_layout}
@@ -22,11 +22,6 @@ use Rattle.pairs.specs.Lent.{leading, spliced_at}
 use Rattle.rules.proofs.EachRow.{no_places, no_row, a_row, absent_place, present_place, rows_more, one_more_few}
 use Rattle.writing.proofs.SurveyLaws.{present_few}
 use Rattle.writing.specs.Inside.{present, row_bytes, rows_bytes, head_bytes, Codes, Writable}
-
--- ---- stores at the front
-
-pub put_front : (part l : List ℕ) → length part ≤ length l → sets l 0 part ≡ leading part l
-put_front part l h = sets-eq part l 0 (omega arith) ∙ rw zero-add
 
 -- ---- the codes of a row: their product fits, and is not 0
 
