@@ -39,7 +39,8 @@ fn solve_wanted(wanted: Wanted, skid: &ReadySkid, lent: &mut Buffers) -> Answer
     }
 }
 
-// The same of a context's record and a specification's next table: the rows of each context state are found first, and skid and buffers are ready.
+// The same of a context's record and a specification's next table: the rows of each context state are found first, and skid and buffers are ready. The two
+// slices become one value here and no further up (tried: in the longer functions above the proof does not close of what is lent back).
 fn solve_tables(
     wanted: Wanted,
     context: &[u8],
@@ -100,7 +101,7 @@ fn solve_records(
     Ok(solve_matched(wanted, context, specification, sizes, sets, next))
 }
 
-// The answer of two records. Numbers are written where the reply is 0, 11 or 12, else none.
+// The answer of two records. Numbers are written where the reply is 0, 11 or 12, else none. The parameters are those of the entry for C.
 pub fn solve_for(
     wanted: Wanted,
     context: &[u8],
