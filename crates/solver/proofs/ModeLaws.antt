@@ -6,14 +6,8 @@ use mathlib.Core.List.{List}
 use Prim.Native.Nat.{ℕ}
 use Rattle.rules.specs.declared.Reply.{Reply}
 use Rattle.rules.specs.Replies.{refusal}
-use Rattle.rules.specs.Tables.{Skid}
 use Rattle.answers.specs.declared.Wanted.{Wanted}
-use Rattle.answers.specs.Solve.{Answer, ModeOf, solution, solve_by, solve, Gives, Solved, SolvedFor}
-use Rattle.solver.specs.Inside.{Answered}
-
-pub wanted_answered : (w told : Wanted) → w ≡ told → (k : Skid) (answer : Answer) (sets' next' sets next : List ℕ)
-    → Answered (solution told k) answer sets' next' sets next → Answered (solution w k) answer sets' next' sets next
-wanted_answered w told is k answer sets' next' sets next = subst (λ w. Answered (solution w k) answer sets' next' sets next) (sym is)
+use Rattle.answers.specs.Solve.{ModeOf, solve_by, solve, Gives, Solved, SolvedFor}
 
 module _ (number : ℕ) (mode : Option Wanted) (is : ModeOf number mode) (context specification sets next : List ℕ) where
   by_mode : (told : Option Wanted) → mode ≡ told → (r : Reply) (sets' next' : List ℕ) → Gives (solve_by context specification sets next told) r sets' next'
