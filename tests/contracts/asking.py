@@ -88,9 +88,9 @@ def wrong_only(tree, function, predicate):
     if due is None:
         return wrong + ["has a parameter of a kind that this test does not know"]
     wrong += from_elsewhere(tree, path, name, predicate)
+    spoken = f" {' '.join(clause)} "
     for what, when in due:
-        here = {"": "result", END: f"{what} . new"}.get(when) if when or what == RESULT else None
-        if here and f" {here} " not in f" {' '.join(clause)} ":
+        if (when == END and f" {what} . new " not in spoken) or (what == RESULT and " result " not in spoken):
             wrong.append(f"says nothing of {what} {when}".strip())
     return wrong
 
