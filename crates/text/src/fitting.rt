@@ -42,6 +42,7 @@ pub fn fit_text(input: &[u8], out: &mut [u8]) -> usize
         return 0;
     }
     if FIT_LIMIT < input.len() {
+        // Refusal 1 for record 0: the input is no record, so no `Refusal` names it.
         return put_refused(out, refused(1, 0));
     }
     let end = record_end(input);

@@ -9,7 +9,7 @@ use super::cutting::record_end;
 use super::lines::put_refused;
 use super::steps::put_answer;
 use records::readers::record_counts;
-use rules::{Kind, NEXT_NUMBERS, SET_NUMBERS, refused};
+use rules::{Kind, NEXT_NUMBERS, Refusal, SET_NUMBERS, refused};
 use solver::solving::solve;
 
 // The longest input: a mode byte, the longest context and the longest specification.
@@ -62,10 +62,11 @@ pub fn solve_text(input: &[u8], out: &mut [u8]) -> usize
         return 0;
     }
     if SOLVE_LIMIT < input.len() {
+        // Refusal 1 for record 0: the input is no record, so no `Refusal` names it.
         return put_refused(out, refused(1, 0));
     }
     if input.len() == 0 {
-        return put_refused(out, refused(13, 0));
+        return put_refused(out, Refusal::Mode.into());
     }
     put_cut(input[0] as u32, &input[1..], out)
 }
