@@ -1,9 +1,14 @@
 -- The predicates of the public functions determine the outcome.
 -- Assumes nothing.
-use mathlib.Core.Path.{◌≡◌}
-use mathlib.Core.Bool.{Bool}
+use mathlib.Core.Path.{◌≡◌, refl, sym, ap, ◌∙◌}
+use mathlib.Core.Bool.{Bool, true, false}
 use mathlib.Core.List.{List}
-use Prim.Native.Nat.{ℕ}
+use Prim.Native.Nat.{ℕ, ◌<◌}
+use lib.Dec.{ltb}
+use lib.ListN.{get_or}
+use borrow.Author.Tests.{ltb-true, ltb-false}
+use Rattle.std.proofs.lemmas.List.{ext_get_or}
+use Rattle.rules.specs.Limits.{state_limit}
 use Rattle.std.specs.Prelude.{Option, Result}
 use Rattle.pairs.specs.declared.CtxState.{CtxState}
 use Rattle.pairs.specs.declared.SpecState.{SpecState}
@@ -15,6 +20,10 @@ use Rattle.tables.specs.declared.Sizes.{Sizes}
 use Rattle.tables.specs.declared.ready.ReadySkid.{ReadySkid}
 use Rattle.tables.specs.declared.skids.SkidCounts.{SkidCounts}
 use Rattle.rules.specs.declared.Refusal.{Refusal}
+use Rattle.tables.specs.declared.discovery.StateTable.{StateTable}
+use Rattle.tables.specs.declared.discovery.Discovered.{Discovered}
+use Rattle.tables.specs.Discovery.{number_of}
+use Rattle.tables.specs.States.{StatesDiscovered}
 use Rattle.tables.specs.Ready.{RowsRead, SpecificationStepped, AnsweringAll, ContinuingFrom}
 use Rattle.tables.specs.Skids.{RecordsRead, SidedBy, OutsideMatched, PairsFew, RoomFound}
 use Rattle.tables.specs.Steps.{NextRead, SpecificationNextRead, ControllerNextRead}
@@ -65,3 +74,24 @@ answering_all_determined r next s b d = determined
 
 pub continuing_from_determined : (r : ReadySkid) (a : CtxState) (next : List ℕ) (s : ℕ) (b d : Bool) → ContinuingFrom r a next s b → ContinuingFrom r a next s d → b ≡ d
 continuing_from_determined r a next s b d = determined
+
+module _ (t : StateTable) (d e : Discovered) (f : StatesDiscovered t d) (g : StatesDiscovered t e) where
+  order_same : d.order.items ≡ e.order.items
+  order_same = determined f.order_is g.order_is
+
+  number_same : d.number ≡ e.number
+  number_same = ext_get_or 0 d.number e.number (determined f.room g.room) (λ x h. go x (rw f.room at h) (ltb x t.states) refl)
+    where
+      go : (x : ℕ) → x < state_limit → (b : Bool) → ltb x t.states ≡ b → get_or d.number x 0 ≡ get_or e.number x 0
+      go x h true p =
+          let inside : x < t.states = ltb-true x t.states p in
+          f.numbers x inside ∙ ap (λ xs. number_of xs x) order_same ∙ sym (g.numbers x inside)
+      go x h false p = determined (f.others x (ltb-false x t.states p) h) (g.others x (ltb-false x t.states p) h)
+
+  both_same : d ≡ e
+  both_same =
+      ap (λ xs. record { order = record { items = xs }; number = d.number }) order_same
+      ∙ ap (λ n. record { order = e.order; number = n }) number_same
+
+pub states_discovered_determined : (t : StateTable) (d e : Discovered) → StatesDiscovered t d → StatesDiscovered t e → d ≡ e
+states_discovered_determined t d e f g = both_same t d e f g
