@@ -8,3 +8,4 @@ pub mod ReadControllerLaws
 pub mod LookupLaws
 pub mod TableLaws
 pub mod LimitLaws
+pub mod CountLaws

@@ -1,4 +1,4 @@
--- What `is_within` and `is_in_limits` need: the counts from place k on decide where those before it are within their limits; the limits of each kind.
+-- What `is_within` and `is_in_limits` need: the test of each count beside its limit says whether all are within; the limits of each kind.
 -- Assumes nothing.
 use Rattle.std.specs.Prelude.{if◌then◌else◌}
 use Rattle.std.specs.List.{list_all, zip}

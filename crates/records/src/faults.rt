@@ -41,7 +41,7 @@ fn is_cut(b: &[u8], kind: Kind) -> bool
     (b.len() - layout.head_size) % layout.row_size != 0
 }
 
-// Each of the first numbers is at least 1 and at most its limit. (No chain of zip and all: tried, the proof didn't close.)
+// Each of the first numbers is at least 1 and at most its limit.
 fn is_within(counts: [u32; 6], limits: &[u16]) -> bool
     requires { length limits.now ≤ 6 }
     ensures { result ≡ in_limits (take (length limits.now) counts) limits.now }

@@ -1,4 +1,4 @@
--- What `write_controller` needs: sizes of a table within the limits, and the outcome of each refusal and of a write.
+-- What `written` and `write_controller` need: sizes of a table within the limits, and the outcome of each refusal and of a write.
 -- Assumes nothing.
 use Rattle.std.specs.Prelude.{Option, Some, None, position}
 use mathlib.Core.Path.{◌≡◌, refl, sym, subst, ◌∙◌}
