@@ -47,7 +47,7 @@ module _ (l : Layout) (s : code.Layout) (known : LaidOut l s) (b : List ℕ) whe
     row_ends : suc k * s.row_size ≤ length b - s.head_size
     row_ends = (le-div_iff_mul-le known.row_some).0 (rw rows_counted h)
 
-    row_inside : s.head_size + (k * s.row_size + s.row_size) ≤ length b
+    pub row_inside : s.head_size + (k * s.row_size + s.row_size) ≤ length b
     row_inside = omega (arith, rw (suc-mul k s.row_size) at row_ends, known.row_some)
 
     pub row_starts : s.head_size + k * s.row_size ≤ length b + 32

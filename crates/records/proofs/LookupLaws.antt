@@ -4,13 +4,13 @@
 use mathlib.Core.Path.{◌≡◌, refl, sym, ap, ◌∙◌}
 use mathlib.Core.Bool.{Bool, true, false}
 use mathlib.Core.List.{List, [], ◌∷◌}
-use Prim.Native.Nat.{ℕ, zero, suc, max, ◌+◌, ◌*◌, ◌≤◌, ◌<◌}
-use native.Mathlib.Nat.{add-zero, zero-add, max-eq_left, max-eq_right}
+use Prim.Native.Nat.{ℕ, zero, suc, max, ◌+◌, ◌-◌, ◌*◌, ◌≤◌, ◌<◌}
+use native.Mathlib.Nat.{not-suc-le-zero, le_of_suc-le-suc, add-zero, zero-add, max-eq_left, max-eq_right}
 use native.Mathlib.Numerals.{add-one}
 use native.Mathlib.Omega.{arith}
 use lib.Dec.{leb, ltb}
-use lib.ListN.{length, get_or, drop, replicate, drop_of_length-le, get_or-eq_default}
-use lib.Seq.{drop-cons, drop-drop}
+use lib.ListN.{length, get_or, take, drop, replicate, length-drop, drop_of_length-le, get_or-eq_default}
+use lib.Seq.{drop-cons, drop-drop, get_or-take, get_or-drop}
 use borrow.Author.Tests.{le-leb, lt-leb, ltb-true, ltb-false}
 use Rattle.pairs.specs.Scans.{first_place, total}
 use Rattle.rules.specs.declared.ContextRow.{ContextRow}
@@ -26,7 +26,7 @@ use Rattle.rules.specs.Tables.{row_state, has_key, row_number}
 use Rattle.rules.specs.ContextRows.{first_row, context_row, state_rows}
 use Rattle.records.specs.declared.layouts.Layout as code
 use Rattle.records.specs.Inside.{Held, LaidOut}
-use Rattle.records.proofs.KindLaws.{row_starts}
+use Rattle.records.proofs.KindLaws.{row_inside}
 use Rattle.rules.proofs.ByPlace.{rows_at, rows_there}
 use Rattle.records.proofs.NumberLaws.{at_held}
 use Rattle.rules.proofs.NextTables.{get_d_replicate_same}
@@ -69,7 +69,13 @@ module _ (kind : Kind) (b c : List ℕ) (rows : ℕ) (h : Held (counts_in (layou
       → ◌≡◌ {A = Counts} (record { i = 0; o = 0; u = get_or c 0 0; v = get_or c 1 0; states = get_or c 2 0; rows = rows }) (counts_of kind b)
   controller_counts_lem e = rw (held_at _ c 0 h, held_at _ c 1 h, held_at _ c 2 h, counted, e)
 
--- ---- row k of a context
+-- ---- row k of a context: its numbers are its bytes
+bytes_read : (n : ℕ) (xs : List ℕ) → n ≤ length xs → numbers (replicate n 1) xs ≡ take n xs
+unfolding numbers little
+bytes_read zero xs h = refl
+bytes_read (suc n) [] h = absurd (not-suc-le-zero h)
+bytes_read (suc n) (x ∷ xs) h = let e : x + 0 ≡ x = add-zero x in rw (e, bytes_read n xs (le_of_suc-le-suc h))
+
 module _ (b : List ℕ) (k : ℕ) (row : List ℕ) where
   abbrev row_read : ContextRow
   row_read = record { state = record { 0 = get_or row 0 0 }; i = get_or row 1 0; v = get_or row 2 0; u = get_or row 3 0; o = get_or row 4 0; next = record { 0 = get_or row 5 0 } }
@@ -77,22 +83,36 @@ module _ (b : List ℕ) (k : ℕ) (row : List ℕ) where
   as_row : ((j : ℕ) → get_or row j 0 ≡ get_or (get_or (rows_in context_layout b) k []) j 0) → row_read ≡ context_row b k
   as_row e = rw (e 0, e 1, e 2, e 3, e 4, e 5)
 
-  pub row_read_lem : (held : List ℕ) → row ≡ held → Held (get_or (rows_in context_layout b) k []) held → row_read ≡ context_row b k
-  row_read_lem held e h = as_row (λ j. rw e (held_at _ held j h))
-
   pub row_none : (n : ℕ) → n ≡ row_count context_layout b → n ≤ k → row ≡ replicate 6 0 → row_read ≡ context_row b k
   row_none n counted h e =
       let less : length (rows_in context_layout b) ≤ k = omega (arith, rows_there context_layout b) in
       as_row (λ j. rw (e, get_or-eq_default (rows_in context_layout b) [] less) (get_d_replicate_same 6 j 0))
 
--- its state is one byte
-module _ (s : code.Layout) (known : LaidOut context_layout s) (b : List ℕ) (k : ℕ) (h : k < row_count context_layout b) where
-  pub state_near : s.head_size + k * s.row_size ≤ length b + 64
-  state_near = omega (arith, row_starts context_layout s known b k h)
+module _ (s : code.Layout) (known : LaidOut context_layout s) (b : List ℕ) (k : ℕ) where
+  module _ (h : k < row_count context_layout b) where
+    within : s.head_size + k * s.row_size + 6 ≤ length b
+    unfolding context_layout total
+    within = omega (arith, row_inside context_layout s known b k h, known.row_is)
 
-  pub state_read : (x : ℕ) → x ≡ little 1 (drop (s.head_size + k * s.row_size) b) → x ≡ row_state (get_or (rows_in context_layout b) k [])
-  unfolding context_layout numbers
-  state_read x e = e ∙ sym (rw (rows_at (1 ∷ 1 ∷ 1 ∷ 1 ∷ 1 ∷ 1 ∷ []) (row_count context_layout b) k (drop (head_size context_layout) b) h, drop-drop, known.head_is, known.row_is))
+    here : get_or (rows_in context_layout b) k [] ≡ numbers (replicate 6 1) (drop (s.head_size + k * s.row_size) b)
+    unfolding context_layout
+    here = rw (rows_at (replicate 6 1) (row_count context_layout b) k (drop (head_size context_layout) b) h, drop-drop, known.head_is, known.row_is)
+
+    row_bytes : get_or (rows_in context_layout b) k [] ≡ take 6 (drop (s.head_size + k * s.row_size) b)
+    row_bytes = here ∙ bytes_read 6 (drop (s.head_size + k * s.row_size) b) (rw length-drop (omega (arith, within)))
+
+    pub state_read : (x : ℕ) → x ≡ get_or b (s.head_size + k * s.row_size) 0 → x ≡ row_state (get_or (rows_in context_layout b) k [])
+    state_read x e =
+        e ∙ sym (rw (row_bytes, get_or-take 6 (drop (s.head_size + k * s.row_size) b) 0 0 (omega arith), get_or-drop) (ap (λ j. get_or b j 0) (add-zero (s.head_size + k * s.row_size))))
+
+  module _ (n : ℕ) (counted : n ≡ row_count context_layout b) (more : k < n) where
+    pub row_end : s.head_size + k * s.row_size + 6 ≤ length b
+    row_end = within (rw counted at more)
+
+    pub row_there : (row : List ℕ) (end : ℕ) → end ≡ s.head_size + k * s.row_size + 6 → row ≡ take (end - (s.head_size + k * s.row_size)) (drop (s.head_size + k * s.row_size) b) → row_read b k row ≡ context_row b k
+    row_there row end e r =
+        let six : end - (s.head_size + k * s.row_size) ≡ 6 = omega (arith, e) in
+        as_row b k row (λ j. rw (r, six, row_bytes (rw counted at more)))
 
 -- ---- the first row of a state or above: the search from row k on gives what the search from row `from` on gives
 pub record Passed (rows : List (List ℕ)) (a from n k : ℕ) : Type 0 where

@@ -6,26 +6,27 @@ ghost use Rattle.rules.specs.Tables.{has_key, row_state};
 ghost use Rattle.rules.specs.ContextRows.{first_row, ContextRowRead, StateRowsFound, RowFound};
 
 use super::layouts::{layout_of, row_count, row_of};
-use super::numbers::number_at;
 use pairs::CtxState;
 use rules::{ContextRow, Kind, StateRows};
 
-// Row k; all 0 where there is no such row.
+// Row k; all 0 where there is no such row. (From its six bytes: by `row_of`, whose numbers are read one by one, solving takes twice as long.)
 pub fn context_row(b: &[u8], k: usize) -> ContextRow
     ensures { ContextRowRead b.now k result }
 {
     let row = if k < row_count(b, Kind::Context) {
-        row_of(b, Kind::Context, k)
+        let layout = layout_of(Kind::Context);
+        let at = layout.head_size + k * layout.row_size;
+        &b[at..at + 6]
     } else {
-        [0; 6]
+        &[0; 6]
     };
     ContextRow {
-        state: CtxState(row[0]),
-        i: row[1],
-        v: row[2],
-        u: row[3],
-        o: row[4],
-        next: CtxState(row[5]),
+        state: CtxState(u32::from(row[0])),
+        i: u32::from(row[1]),
+        v: u32::from(row[2]),
+        u: u32::from(row[3]),
+        o: u32::from(row[4]),
+        next: CtxState(u32::from(row[5])),
     }
 }
 
@@ -35,7 +36,7 @@ fn state_of(b: &[u8], k: usize) -> usize
     ensures { result ≡ row_state (get_or (rows_in context_layout b.now) k []) }
 {
     let layout = layout_of(Kind::Context);
-    number_at(b, layout.head_size + k * layout.row_size, 1) as usize
+    usize::from(b[layout.head_size + k * layout.row_size])
 }
 
 // The first row from row `from` on whose state is `a` or above; where there is none, the number of rows, or `from` where that is beyond them. (No chain,
