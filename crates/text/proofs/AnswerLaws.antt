@@ -2,14 +2,16 @@
 -- Assumes nothing.
 use mathlib.Core.Path.{◌≡◌}
 use mathlib.Core.List.{List, ◌++◌}
-use Prim.Native.Nat.{ℕ, ◌+◌, ◌*◌, ◌^◌, ◌≤◌, ◌<◌}
+use Prim.Native.Nat.{ℕ, ◌*◌, ◌^◌, ◌≤◌, ◌<◌}
 use native.Mathlib.Omega.{arith}
-use lib.ListN.{length, take, length-append}
+use lib.ListN.{length, take}
 use borrow.Author.Tests.{eq-eqb, ne_eqb}
 use Rattle.rules.specs.declared.Reply.{Reply}
 use Rattle.text.specs.Lines.{refused_text, solved_line, solved_text}
-use Rattle.text.specs.Inside.{Appends, step_lines, Codes, Tabled}
-use Rattle.text.proofs.AppendLaws.{appends_length, appends_then}
+use Rattle.text.specs.Inside.{step_lines, Codes, Tabled}
+use Rattle.text.specs.declared.growing.Text.{Text}
+use Rattle.text.specs.Growing.{Room, Grown}
+use Rattle.text.proofs.GrowingLaws.{front_room, rest_room, grown_then}
 use Rattle.text.proofs.StepLaws.{codes_fit}
 
 module _ (n_u n_v : ℕ) (reply : Reply) (next : List ℕ) where
@@ -21,11 +23,11 @@ module _ (n_u n_v : ℕ) (reply : Reply) (next : List ℕ) where
   unfolding solved_text step_lines
   solved_is e = rw (eq-eqb reply.number 0 e)
 
-  pub refused_room : (out : List ℕ) → (reply.number ≡ 0 → ⊥) → length (solved_text n_u n_v reply next) ≤ length out → length (refused_text reply) ≤ length out
-  refused_room out n h = rw (refused_is n) at h
+  pub refused_room : (text : Text) → (reply.number ≡ 0 → ⊥) → Room (length (solved_text n_u n_v reply next)) text → Room (length (refused_text reply)) text
+  refused_room text n room = rw (refused_is n) at room
 
-  pub refused_appends : (out out' : List ℕ) (end : ℕ) → (reply.number ≡ 0 → ⊥) → Appends 0 (refused_text reply) out end out' → Appends 0 (solved_text n_u n_v reply next) out end out'
-  refused_appends out out' end n put = rw (refused_is n) put
+  pub refused_grown : (was now : Text) → (reply.number ≡ 0 → ⊥) → Grown (refused_text reply) was now → Grown (solved_text n_u n_v reply next) was now
+  refused_grown was now n put = rw (refused_is n) put
 
   -- its places are there, and fit
   pub codes_are : Tabled n_u n_v reply next → reply.number ≡ 0 → Codes n_u n_v (reply.states * (n_u * n_v))
@@ -41,15 +43,12 @@ module _ (n_u n_v : ℕ) (reply : Reply) (next : List ℕ) where
   size_fits tabled e = omega (arith, (tabled.codes e).few_places)
 
   -- the table's lines stand behind the first line
-  pub solved_room : (out : List ℕ) → reply.number ≡ 0 → length (solved_text n_u n_v reply next) ≤ length out → length (solved_line reply.states reply.rounds) ≤ length out
-  solved_room out e h = let h' = rw (solved_is e, length-append) at h in omega arith
+  pub solved_room : (text : Text) → reply.number ≡ 0 → Room (length (solved_text n_u n_v reply next)) text → Room (length (solved_line reply.states reply.rounds)) text
+  solved_room text e room = front_room (solved_line reply.states reply.rounds) (step_lines n_u n_v 0 (take (reply.states * (n_u * n_v)) next)) text (rw (solved_is e) at room)
 
-  pub steps_room : (out out' : List ℕ) (end : ℕ) → reply.number ≡ 0 → length (solved_text n_u n_v reply next) ≤ length out
-      → Appends 0 (solved_line reply.states reply.rounds) out end out' → end + length (step_lines n_u n_v 0 (take (reply.states * (n_u * n_v)) next)) ≤ length out'
-  steps_room out out' end e h put =
-      let h' = rw (solved_is e, length-append) at h in
-      omega (arith, put.end_is, appends_length put (omega arith))
+  module _ (was now : Text) (e : reply.number ≡ 0) (first : Grown (solved_line reply.states reply.rounds) was now) where
+    pub steps_room : Room (length (solved_text n_u n_v reply next)) was → Room (length (step_lines n_u n_v 0 (take (reply.states * (n_u * n_v)) next))) now
+    steps_room room = rest_room first (step_lines n_u n_v 0 (take (reply.states * (n_u * n_v)) next)) (rw (solved_is e) at room)
 
-  pub solved_appends : (out out' out'' : List ℕ) (end end' : ℕ) → reply.number ≡ 0 → Appends 0 (solved_line reply.states reply.rounds) out end out'
-      → Appends end (step_lines n_u n_v 0 (take (reply.states * (n_u * n_v)) next)) out' end' out'' → Appends 0 (solved_text n_u n_v reply next) out end' out''
-  solved_appends out out' out'' end end' e first table = rw (solved_is e) (appends_then first table (omega arith))
+    pub solved_grown : (then : Text) → Grown (step_lines n_u n_v 0 (take (reply.states * (n_u * n_v)) next)) now then → Grown (solved_text n_u n_v reply next) was then
+    solved_grown then table = rw (solved_is e) (grown_then first table)

@@ -1,6 +1,7 @@
 pub mod Inputs
 pub mod Digits
 pub mod AppendLaws
+pub mod GrowingLaws
 pub mod LengthLaws
 pub mod NumberLaws
 pub mod ReadingLaws

@@ -4,19 +4,17 @@ use Rattle.std.specs.Prelude.{if◌then◌else◌}
 use mathlib.Core.Path.{◌≡◌, sym, ◌∙◌}
 use mathlib.Core.Bool.{Bool, true, false}
 use mathlib.Core.List.{List}
-use Prim.Native.Nat.{ℕ, ◌-◌, ◌^◌, ◌≤◌, ◌<◌}
+use Prim.Native.Nat.{ℕ, ◌-◌, ◌≤◌, ◌<◌}
 use native.Mathlib.Omega.{arith}
 use lib.Dec.{leb}
 use lib.ListN.{length, take, drop, length-append, length-drop}
 use lib.Seq.{take_all, length-take-le}
-use borrow.Author.Tests.{leb-true, le-leb, lt-leb}
+use borrow.Author.Tests.{le-leb, lt-leb}
 use Rattle.pairs.specs.Lent.{leading}
-use Rattle.rules.specs.declared.Reply.{Reply}
-use Rattle.text.specs.Lines.{refused_text}
 use Rattle.text.specs.Inputs.{record_end, first_record, behind}
 use Rattle.text.specs.Programs.{TextPut}
-use Rattle.text.specs.Inside.{Appends}
-use Rattle.text.proofs.LengthLaws.{refused_length}
+use Rattle.text.specs.declared.growing.Text.{Text}
+use Rattle.text.specs.Growing.{Grown}
 use Rattle.text.proofs.CutLaws.{end_within}
 
 -- ---- the parts of the input
@@ -44,15 +42,15 @@ module _ (limit : ℕ) (text out : List ℕ) where
   pub buffer_stays : length out < limit → TextPut limit text out 0 out
   buffer_stays h = let short = lt-leb limit (length out) h in record { size_is = rw short; buffer_is = rw short }
 
-  pub text_put : limit ≤ length out → (r : ℕ) (out' printed : List ℕ) → printed ≡ text → Appends 0 printed out r out' → TextPut limit text out r out'
-  text_put h r out' printed e a =
+  -- a text that begins at the front of the buffer, which ends as what the text leaves if that is the same buffer
+  pub text_put : limit ≤ length out → (was now : Text) → Grown text was now → was.end ≡ 0 → was.out.now ≡ out
+      → (out' : List ℕ) → (was.out.ghost_name ≡ now.out.ghost_name → out' ≡ now.out.now) → TextPut limit text out now.end out'
+  text_put h was now put front lent out' back =
       let long = le-leb limit (length out) h in
-      record { size_is = rw (long, ← e) (a.end_is ∙ omega arith); buffer_is = rw (long, ← e) a.buffer_is }
-
--- the line of a refusal is short; that the limit is long enough for it is computed
-pub refused_fits : (r : Reply) → r.number < 2 ^ 32 → r.«record» < 2 ^ 32 → r.row < 2 ^ 32 → r.rounds < 2 ^ 32 → (limit : ℕ) (out : List ℕ) → limit ≤ length out → leb 70 limit ≡ true
-    → length (refused_text r) ≤ length out
-refused_fits r number table row rounds limit out h room = omega (arith, leb-true 70 limit room, refused_length r number table row rounds)
+      record {
+        size_is = rw long (put.appends.end_is ∙ rw front (omega arith));
+        buffer_is = rw long (back (sym put.same) ∙ put.appends.buffer_is ∙ rw (front, lent));
+      }
 
 -- the text that was put stands within the buffer, which is what a program that writes its bytes needs
 module _ (limit : ℕ) (text out : List ℕ) (r : ℕ) (out' : List ℕ) (put : TextPut limit text out r out') where

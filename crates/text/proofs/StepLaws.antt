@@ -8,8 +8,10 @@ use native.Mathlib.Omega.{arith}
 use lib.ListN.{length, get_or, take}
 use Rattle.rules.proofs.EachRow.{no_places, absent_place, present_place, rows_more, one_more_few}
 use Rattle.text.specs.Lines.{line}
-use Rattle.text.specs.Inside.{Appends, step_lines, Codes}
-use Rattle.text.proofs.AppendLaws.{appends_length, appends_then, appends_none}
+use Rattle.text.specs.Inside.{step_lines, Codes}
+use Rattle.text.specs.declared.growing.Text.{Text}
+use Rattle.text.specs.Growing.{Room, Grown}
+use Rattle.text.proofs.GrowingLaws.{grown_none, grown_then}
 
 -- ---- codes: their product fits, and is not 0; a place before is a place
 
@@ -40,42 +42,39 @@ module _ (n_u n_v p : ℕ) (codes : Codes n_u n_v p) where
 
 -- ---- one place
 
-module _ (n_u n_v p to at : ℕ) where
-  pub absent_appends : (out : List ℕ) → to ≡ 65535 → Appends at (step_lines n_u n_v p (to ∷ [])) out at out
+module _ (n_u n_v p to : ℕ) where
+  pub absent_grown : (text : Text) → to ≡ 65535 → Grown (step_lines n_u n_v p (to ∷ [])) text text
   unfolding step_lines
-  absent_appends out e = rw (absent_place line n_u n_v p to e) (appends_none at out)
+  absent_grown text e = rw (absent_place line n_u n_v p to e) (grown_none text)
 
-  pub line_room : (out : List ℕ) → (to ≡ 65535 → ⊥) → at + length (step_lines n_u n_v p (to ∷ [])) ≤ length out
-      → at + length (line (p / (n_u * n_v) ∷ p / n_v % n_u ∷ p % n_v ∷ to ∷ [])) ≤ length out
+  pub line_room : (text : Text) → (to ≡ 65535 → ⊥) → Room (length (step_lines n_u n_v p (to ∷ []))) text
+      → Room (length (line (p / (n_u * n_v) ∷ p / n_v % n_u ∷ p % n_v ∷ to ∷ []))) text
   unfolding step_lines
-  line_room out n h = rw (present_place line n_u n_v p to n) at h
+  line_room text n room = rw (present_place line n_u n_v p to n) at room
 
-  pub line_appends : (out out' : List ℕ) (end : ℕ) → (to ≡ 65535 → ⊥) → Appends at (line (p / (n_u * n_v) ∷ p / n_v % n_u ∷ p % n_v ∷ to ∷ [])) out end out'
-      → Appends at (step_lines n_u n_v p (to ∷ [])) out end out'
+  pub line_grown : (was now : Text) → (to ≡ 65535 → ⊥) → Grown (line (p / (n_u * n_v) ∷ p / n_v % n_u ∷ p % n_v ∷ to ∷ [])) was now
+      → Grown (step_lines n_u n_v p (to ∷ [])) was now
   unfolding step_lines
-  line_appends out out' end n put = rw (present_place line n_u n_v p to n) put
+  line_grown was now n put = rw (present_place line n_u n_v p to n) put
 
 -- ---- the loop over the places
 
-pub none_appends : (n_u n_v at : ℕ) (out : List ℕ) → Appends at (step_lines n_u n_v 0 []) out at out
+pub none_grown : (n_u n_v : ℕ) (text : Text) → Grown (step_lines n_u n_v 0 []) text text
 unfolding step_lines
-none_appends n_u n_v at out = rw (no_places line n_u n_v 0) (appends_none at out)
+none_grown n_u n_v text = rw (no_places line n_u n_v 0) (grown_none text)
 
-module _ (n_u n_v size p at end : ℕ) (next o out : List ℕ) (room : at + length (step_lines n_u n_v 0 (take size next)) ≤ length o) where
-  pub turn_room : p < size → size ≤ length next → Appends at (step_lines n_u n_v 0 (take p next)) o end out
-      → end + length (step_lines n_u n_v p (get_or next p 0 ∷ [])) ≤ length out
+module _ (n_u n_v size p : ℕ) (next : List ℕ) (was now : Text) where
+  pub turn_room : Room (length (step_lines n_u n_v 0 (take size next))) was → p < size → size ≤ length next → Grown (step_lines n_u n_v 0 (take p next)) was now
+      → Room (length (step_lines n_u n_v p (get_or next p 0 ∷ []))) now
   unfolding step_lines
-  turn_room more enough before =
+  turn_room room more enough before =
       let few = one_more_few line n_u n_v size p next more enough in
-      omega (arith, before.end_is, appends_length before (omega arith))
+      omega (arith, before.appends.end_is, before.long)
 
-  pub turn_appends : (end' : ℕ) (out' : List ℕ) → p < size → size ≤ length next → Appends at (step_lines n_u n_v 0 (take p next)) o end out
-      → Appends end (step_lines n_u n_v p (get_or next p 0 ∷ [])) out end' out' → Appends at (step_lines n_u n_v 0 (take (p + 1) next)) o end' out'
+  pub turn_grown : (then : Text) → p < size → size ≤ length next → Grown (step_lines n_u n_v 0 (take p next)) was now
+      → Grown (step_lines n_u n_v p (get_or next p 0 ∷ [])) now then → Grown (step_lines n_u n_v 0 (take (p + 1) next)) was then
   unfolding step_lines
-  turn_appends end' out' more enough before here = rw (rows_more line n_u n_v p next (omega arith)) (appends_then before here (omega arith))
+  turn_grown then more enough before here = rw (rows_more line n_u n_v p next (omega arith)) (grown_then before here)
 
-  pub end_appends : p ≤ size → size ≤ p → Appends at (step_lines n_u n_v 0 (take p next)) o end out → Appends at (step_lines n_u n_v 0 (take size next)) o end out
-  end_appends h k before = let e : size ≡ p = omega arith in rw e before
-
-  pub end_length : p ≤ size → size ≤ p → Appends at (step_lines n_u n_v 0 (take p next)) o end out → length out ≡ length o
-  end_length h k before = let e : size ≡ p = omega arith in appends_length before (rw e at room)
+  pub all_grown : p ≤ size → size ≤ p → Grown (step_lines n_u n_v 0 (take p next)) was now → Grown (step_lines n_u n_v 0 (take size next)) was now
+  all_grown h k before = let e : size ≡ p = omega arith in rw e before

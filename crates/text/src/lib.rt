@@ -3,8 +3,8 @@
 
 pub mod cutting;
 pub mod fitting;
+mod growing;
 mod lines;
-mod numbers;
 pub mod reading;
 pub mod solving;
 mod steps;

@@ -8,9 +8,9 @@ put_refused-requires c = search refused_room
 pub returns-then-reply-ne0 : goal.returns-then-reply-ne0
 returns-then-reply-ne0 c = search checked_refused_put
 
-pub put_field-end-requires : goal.put_field-end-requires
+pub put_field-requires : goal.put_field-requires
 unfolding fits_word states_word
-put_field-end-requires c = search fits_room
+put_field-requires c = search fits_room
 
 pub put_end-requires : goal.put_end-requires
 unfolding fits_word states_word

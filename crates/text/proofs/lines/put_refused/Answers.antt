@@ -4,21 +4,21 @@ use Rattle.text.specs.Lines.{refused_word, record_word, row_word, rounds_word}
 use Rattle.text.proofs.LineLaws.{refused_parts, refused_put}
 use Rattle.text.proofs.lines.put_refused.Goals as goal
 
-pub put_field-number-requires : goal.put_field-number-requires
+pub put_field-requires : goal.put_field-requires
 unfolding refused_word record_word row_word rounds_word
-put_field-number-requires c = omega (arith, simp (refused_parts, length-append) at c.requires)
+put_field-requires c = omega (arith, simp (refused_parts, length-append) at c.requires)
 
-pub put_field-record-requires : goal.put_field-record-requires
+pub put_field-requires-2 : goal.put_field-requires-2
 unfolding refused_word record_word row_word rounds_word
-put_field-record-requires c = omega (arith, simp (refused_parts, length-append) at c.requires)
+put_field-requires-2 c = omega (arith, simp (refused_parts, length-append) at c.requires)
 
-pub put_field-row-requires : goal.put_field-row-requires
+pub put_field-requires-3 : goal.put_field-requires-3
 unfolding refused_word record_word row_word rounds_word
-put_field-row-requires c = omega (arith, simp (refused_parts, length-append) at c.requires)
+put_field-requires-3 c = omega (arith, simp (refused_parts, length-append) at c.requires)
 
-pub put_field-rounds-requires : goal.put_field-rounds-requires
+pub put_field-requires-4 : goal.put_field-requires-4
 unfolding refused_word record_word row_word rounds_word
-put_field-rounds-requires c = omega (arith, simp (refused_parts, length-append) at c.requires)
+put_field-requires-4 c = omega (arith, simp (refused_parts, length-append) at c.requires)
 
 pub put_end-requires : goal.put_end-requires
 unfolding refused_word record_word row_word rounds_word

@@ -4,13 +4,13 @@ use Rattle.text.specs.Lines.{states_word, rounds_word}
 use Rattle.text.proofs.LineLaws.{solved_parts, solved_put}
 use Rattle.text.proofs.lines.put_solved.Goals as goal
 
-pub put_field-behind-requires : goal.put_field-behind-requires
+pub put_field-requires : goal.put_field-requires
 unfolding states_word rounds_word
-put_field-behind-requires c = omega (arith, simp (solved_parts, length-append) at c.requires)
+put_field-requires c = omega (arith, simp (solved_parts, length-append) at c.requires)
 
-pub put_field-end-requires : goal.put_field-end-requires
+pub put_field-requires-2 : goal.put_field-requires-2
 unfolding states_word rounds_word
-put_field-end-requires c = omega (arith, simp (solved_parts, length-append) at c.requires)
+put_field-requires-2 c = omega (arith, simp (solved_parts, length-append) at c.requires)
 
 pub put_end-requires : goal.put_end-requires
 unfolding states_word rounds_word

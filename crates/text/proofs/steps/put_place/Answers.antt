@@ -1,8 +1,8 @@
-use Rattle.text.proofs.StepLaws.{codes_fit, codes_some, state_fits, signal_fits, reply_fits, absent_appends, line_room, line_appends}
+use Rattle.text.proofs.StepLaws.{codes_fit, codes_some, state_fits, signal_fits, reply_fits, absent_grown, line_room, line_grown}
 use Rattle.text.proofs.steps.put_place.Goals as goal
 
 pub returns-then-to-eq-ABSENT : goal.returns-then-to-eq-ABSENT
-returns-then-to-eq-ABSENT c = search absent_appends
+returns-then-to-eq-ABSENT c = search absent_grown
 
 pub overflow_mul-u : goal.overflow_mul-u
 overflow_mul-u c = record { fits = search codes_fit }
@@ -23,4 +23,4 @@ pub put_step-requires : goal.put_step-requires
 put_step-requires c = search line_room
 
 pub returns : goal.returns
-returns c = search line_appends
+returns c = search line_grown
