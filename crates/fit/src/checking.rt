@@ -35,7 +35,8 @@ fn match_refusal(skid: &SkidCounts, t: Counts, lent: usize) -> Result<(), Refusa
     room(lent, SET_NUMBERS)
 }
 
-// The verdict on a next table, of the two records of a skid: the specification becomes a next table.
+// The verdict on a next table, of the two records of a skid: the specification becomes a next table. (The parts come one by one: `judge` makes the skid
+// of them.)
 fn check_read(
     context: &[u8],
     specification: &[u8],

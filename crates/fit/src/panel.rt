@@ -1,5 +1,5 @@
-// What the panel takes: reading of the three records, writing of a controller, and the check. Each is one call of the plain function. The crate fit_c has
-// the entries for C, which call these.
+// What the panel takes: reading of the three records, writing of a controller, and the check. Each is one call of the plain function. They are
+// public, with their rows in docs/CONTRACTS.md; the crate fit_c exports them under the same names (C interface).
 ghost use Rattle.std.specs.Prelude.{◌≡◌};
 ghost use Rattle.rules.specs.Reading.{reading_reply};
 ghost use Rattle.rules.specs.Writing.{ControllerWritten};

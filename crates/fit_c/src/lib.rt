@@ -1,5 +1,5 @@
-// The panel's entries for C: reading of the three records, writing of a controller, and the check. Each is one call of the function of `fit::panel` of its name,
-// and says what that says.
+// The panel's entries for C: reading of the three records, writing of a controller, and the check. Each is one call of the function of `fit::panel` of its
+// name, and says what that says.
 #![tactic(auto)]
 
 ghost use Rattle.rules.specs.Writing.{ControllerWritten};

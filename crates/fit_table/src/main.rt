@@ -9,6 +9,7 @@ use text::reading::read_full;
 // The longest input and a byte more, so that a longer one is seen to be too long.
 const ROOM: usize = FIT_LIMIT + 1;
 
+// (That of `solve` has other limits and another function in these lines; one for both would be no plainer.)
 fn main(rt: HostRuntime) -> io::Result<()> {
     let mut input = [0u8; ROOM];
     let n = read_full(&mut rt.stdin(), &mut input)?;

@@ -112,7 +112,8 @@ fn has_codes_below(row: [u32; 6], counts: [u32; 6], kind: Kind) -> bool
     is_below(row, counts, layout_of(kind).below)
 }
 
-// Row k, after the row before it, which is not looked at where k is 0: refusals 5, 6 and 7, in their order.
+// Row k, after the row before it, which is not looked at where k is 0: refusals 5, 6 and 7, in their order. (No option for it: k says
+// whether it is there, and is needed in the reply.)
 #[inline(always)]
 fn row_fault(
     kind: Kind,

@@ -57,6 +57,7 @@ static CONTROLLER_LAYOUT: Layout = Layout {
     row_size: 6,
 };
 
+// Bytes and kind come one by one throughout: public functions have them so (what may not change: `RecordRead`, `CountsRead`), and a kind is a constant.
 // Its callers name one kind each: what is marked inline(always) here, in numbers.rt, faults.rt and readers.rt is compiled for each kind by itself, with the
 // sizes written out (without: half as fast).
 #[inline(always)]

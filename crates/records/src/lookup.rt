@@ -72,7 +72,7 @@ fn has_key(row: [u32; 6], a: u32, i: u32, v: u32, u: u32, o: u32) -> bool
     row[0] == a && row[1] == i && row[2] == v && row[3] == u && row[4] == o
 }
 
-// The number of the row with this key; the number of rows where there is none.
+// The number of the row with this key; the number of rows where there is none. (No option: what may not change, `RowFound`.)
 pub fn row_number(b: &[u8], state: CtxState, i: u32, v: u32, u: u32, o: u32) -> usize
     ensures { RowFound b.now state i v u o result }
 {

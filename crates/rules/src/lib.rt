@@ -23,6 +23,7 @@ pub const NEXT_NUMBERS: usize = 8192;
 // The lent numbers of 64 bits hold the sets of so many states.
 pub const SET_NUMBERS: usize = 512;
 
+// (C interface: the lent next states are numbers of 16 bits, so tables hold this number and no option.)
 pub const ABSENT: u16 = 65535;
 
 // Every reply of the product. For C: five numbers of 32 bits, so no Result (C interface).

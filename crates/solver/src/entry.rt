@@ -1,4 +1,5 @@
-// What the configurator takes: one call of the plain function. The crate solver_c has the entry for C, which calls this.
+// What the configurator takes: one call of the plain function. It is public, with its row in docs/CONTRACTS.md; the crate solver_c exports it under the same
+// name (C interface).
 ghost use Rattle.answers.specs.Solve.{Solved};
 
 use super::solving::solve;

@@ -1,5 +1,5 @@
-// What the fit check and the solver share: the records of a skid and their counts, the steps of a next table, the rows of each context state, and
-// zeros behind what was written.
+// What the fit check and the solver share: the records of a skid and their counts, the skid made ready, the steps of a next table and the states that it
+// reaches, the rows of each context state, and zeros behind what was written.
 #![tactic(auto)]
 
 pub mod discovery; // the states that a next table reaches, numbered by first discovery

@@ -58,7 +58,8 @@ pub fn room(lent: usize, needed: usize) -> Result<(), Refusal>
     Ok(())
 }
 
-// The counts of context and specification, and the states of the table beside them. Of counts of 32 bits no product overflows.
+// The counts of context and specification, and the states of the table beside them. Of counts of 32 bits no product overflows. (Three
+// parameters: what may not change, `SidedBy`.)
 pub fn sizes_of(c: Counts, s: Counts, states: usize) -> Sizes
     ensures { SidedBy c s states result }
 {
