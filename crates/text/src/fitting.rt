@@ -48,8 +48,8 @@ fn put_input(input: &[u8], text: &mut Text)
     put_rest(&input[..end], &input[end..], text);
 }
 
-// What the program prints for its input, at the front of a buffer of at least FIT_TEXT bytes; how many bytes that are. A shorter buffer stays as it was, and the
-// answer is 0.
+// What the program prints for its input, at the front of a buffer of at least FIT_TEXT bytes; how many bytes that are. A shorter buffer stays as it was, and
+// the answer is 0. (No option: what may not change, `FitTextPut`.)
 pub fn fit_text(input: &[u8], out: &mut [u8]) -> usize
     ensures { FitTextPut input.now out.old result out.new }
 {

@@ -1,4 +1,4 @@
-// The bytes that the two programs print, and how their input is cut.
+// The bytes that the two programs print, and how their input is read and cut.
 #![tactic(auto)]
 
 pub mod cutting;

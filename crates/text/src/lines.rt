@@ -55,7 +55,7 @@ pub(crate) fn put_step(text: &mut Text, state: u32, u: u32, v: u32, next: u32)
     text.put_end();
 }
 
-// "fits states N", or the refusal.
+// "fits states N", or the refusal. (By its number: C interface, the check gives the reply that C gets.)
 pub(crate) fn put_checked(text: &mut Text, reply: Reply)
     requires { Room (length (checked_text reply)) text.old }
     ensures { Grown (checked_text reply) text.old text.new }

@@ -73,7 +73,7 @@ fn put_input(input: &[u8], text: &mut Text)
 }
 
 // What the program prints for its input, at the front of a buffer of at least SOLVE_TEXT bytes; how many bytes that are. A shorter buffer stays as it was, and
-// the answer is 0.
+// the answer is 0. (No option: what may not change, `SolveTextPut`.)
 pub fn solve_text(input: &[u8], out: &mut [u8]) -> usize
     ensures { SolveTextPut input.now out.old result out.new }
 {

@@ -37,7 +37,7 @@ fn put_steps(text: &mut Text, next: &[u16], size: usize, u: usize, v: usize)
     }
 }
 
-// The answer of solving: its first line and its table, or the refusal.
+// The answer of solving: its first line and its table, or the refusal. (By its number: C interface, solving gives the reply that C gets.)
 pub(crate) fn put_answer(text: &mut Text, u: u32, v: u32, reply: Reply, next: &[u16])
     requires tabled { Tabled u v reply next.now }
     requires room { Room (length (solved_text u v reply next.now)) text.old }
