@@ -1,12 +1,12 @@
 -- What the functions need that go by the layout of a kind of record.
 -- Assumes nothing.
-use mathlib.Core.Path.{◌≡◌, sym}
+use mathlib.Core.Path.{◌≡◌, sym, ap}
 use mathlib.Core.List.{List, []}
 use borrow.Author.Rules.{rules}
 use Prim.Native.Nat.{ℕ, suc, ◌+◌, ◌-◌, ◌*◌, ◌/◌, ◌^◌, ◌≤◌, ◌<◌}
 use native.Mathlib.Nat.{zero-div, suc-mul, le-div_iff_mul-le}
 use native.Mathlib.Omega.{arith}
-use lib.ListN.{length, get_or, drop}
+use lib.ListN.{length, get_or, take, drop}
 use lib.Seq.{drop-drop}
 use Rattle.rules.specs.declared.Kind.{Kind}
 use Rattle.rules.specs.declared.Kind.TheVariants.{Context, Specification, Controller}
@@ -15,6 +15,8 @@ use Rattle.rules.specs.Layouts.{Layout, context_layout, specification_layout, co
 use Rattle.rules.specs.Bytes.{numbers}
 use Rattle.rules.specs.Records.{head_size, counts_in, row_count, rows_in}
 use Rattle.rules.proofs.ByPlace.{rows_at}
+use Rattle.pairs.specs.Scans.{total}
+use Rattle.records.proofs.NumberLaws.{numbers_alone}
 use Rattle.records.specs.Inside.{Held, LaidOut}
 
 -- what the three layouts have in common
@@ -50,9 +52,6 @@ module _ (l : Layout) (s : code.Layout) (known : LaidOut l s) (b : List ℕ) whe
     pub row_inside : s.head_size + (k * s.row_size + s.row_size) ≤ length b
     row_inside = omega (arith, rw (suc-mul k s.row_size) at row_ends, known.row_some)
 
-    pub row_starts : s.head_size + k * s.row_size ≤ length b + 32
-    row_starts = omega (arith, row_inside)
-
     pub row_offset_fits : length b < 2 ^ 64 → k * s.row_size < 2 ^ 64
     row_offset_fits f = omega (arith, row_inside)
 
@@ -61,3 +60,14 @@ module _ (l : Layout) (s : code.Layout) (known : LaidOut l s) (b : List ℕ) whe
 
     pub row_held : (held : List ℕ) → Held (numbers s.field_sizes.now (drop (s.head_size + k * s.row_size) b)) held → Held (get_or (rows_in l b) k []) held
     row_held held e = rw (rows_at l.field_sizes (row_count l b) k (drop (head_size l) b) h, drop-drop, ← known.head_is, ← known.row_is, ← known.field_sizes_are) e
+
+    pub row_bounds : (s.head_size + k * s.row_size ≤ s.head_size + k * s.row_size + s.row_size) × (s.head_size + k * s.row_size + s.row_size ≤ length b)
+    row_bounds = (omega arith, omega (arith, row_inside))
+
+    -- the fields are read from the bytes of the row alone
+    pub row_alone : (held row : List ℕ) (end : ℕ) → end ≡ s.head_size + k * s.row_size + s.row_size
+        → row ≡ take (end - (s.head_size + k * s.row_size)) (drop (s.head_size + k * s.row_size) b)
+        → Held (numbers s.field_sizes.now row) held → Held (get_or (rows_in l b) k []) held
+    row_alone held row end e r h =
+        let size : end - (s.head_size + k * s.row_size) ≡ total s.field_sizes.now = omega (arith, e, known.row_is, ap total known.field_sizes_are) in
+        row_held held (rw (r, size, numbers_alone s.field_sizes.now (drop (s.head_size + k * s.row_size) b)) at h)

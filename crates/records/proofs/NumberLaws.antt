@@ -12,7 +12,8 @@ use native.Mathlib.Omega.{arith}
 use lib.Dec.{leb, eqb, leb→le}
 use lib.ListN.{length, get_or, take, drop, set, replicate, length-take, length-replicate, length-append}
 use lib.Pointwise.{pointwise}
-use lib.Seq.{take_at, take-length, get_or-drop, drop-drop, get_or-set_same, get_or-set_other}
+use Rattle.std.proofs.lemmas.List.{drop-take}
+use lib.Seq.{take_at, take-nil, take-length, get_or-drop, drop-drop, get_or-set_same, get_or-set_other}
 use borrow.Author.Tests.{eqb-true, eqb-false}
 use mir.Facts.{and_yes}
 use Rattle.pairs.specs.Scans.{all_with, same, total}
@@ -57,6 +58,20 @@ module _ (b : List ℕ) (at size low : ℕ) (is_low : low ≡ get_or b at 0) whe
       e ∙ is_both ∙ sym (rw (two, little_two, get_or-drop at b 0 0, get_or-drop at b 1 0, add-zero, is_low, is_high) (omega arith))
 
 -- ---- numbers one after the other
+
+-- a number needs its own bytes alone, and so do several
+little_alone : (w n : ℕ) (b : List ℕ) → w ≤ n → little w (take n b) ≡ little w b
+unfolding little
+little_alone zero n b h = refl
+little_alone (suc w) n [] h = ap (little (suc w)) (take-nil n)
+little_alone (suc w) zero (x ∷ b) h = absurd (not-suc-le-zero h)
+little_alone (suc w) (suc n) (x ∷ b) h = ap (λ r. x + 256 * r) (little_alone w n b (le_of_suc-le-suc h))
+
+pub numbers_alone : (ws b : List ℕ) → numbers ws (take (total ws) b) ≡ numbers ws b
+unfolding numbers total
+numbers_alone [] b = refl
+numbers_alone (w ∷ ws) b = rw (little_alone w (w + total ws) b (omega arith), drop-take w (total ws) b, numbers_alone ws (drop w b))
+
 total_more : (ws : List ℕ) (j : ℕ) → j < length ws → total (take (j + 1) ws) ≡ total (take j ws) + get_or ws j 0
 unfolding total
 total_more [] j h = absurd (not-suc-le-zero h)

@@ -91,7 +91,7 @@ pub(crate) fn counts_of(b: &[u8], kind: Kind) -> [u32; 6]
     numbers_at(b, 4, layout_of(kind).count_sizes)
 }
 
-// The fields of row k; zeros after them.
+// The fields of row k; zeros after them. They are read from the bytes of the row alone, whose number is known: so no byte is tested to be there.
 #[inline(always)]
 pub(crate) fn row_of(b: &[u8], kind: Kind, k: usize) -> [u32; 6]
     requires { k < row_count (layout_of kind) b.now }
@@ -99,5 +99,5 @@ pub(crate) fn row_of(b: &[u8], kind: Kind, k: usize) -> [u32; 6]
 {
     let layout = layout_of(kind);
     let at = layout.head_size + k * layout.row_size;
-    numbers_at(b, at, layout.field_sizes)
+    numbers_at(&b[at..at + layout.row_size], 0, layout.field_sizes)
 }

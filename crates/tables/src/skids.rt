@@ -15,6 +15,7 @@ pub struct SkidCounts {
 
 // Refusals 1 to 7 of the context, then of the specification.
 #[tactic(auto, using(crate::proofs::SkidReadLaws::skid_reads))]
+#[inline(never)]
 pub fn read_skid(context: &[u8], specification: &[u8]) -> Result<SkidCounts, Refusal>
     ensures { RecordsRead context.now specification.now result }
 {

@@ -1,5 +1,5 @@
-use borrow.Author.Rules.{rules}
-use Rattle.records.proofs.KindLaws.{row_offset_fits, row_start_fits, row_starts, row_held}
+use mathlib.Core.Path.{refl}
+use Rattle.records.proofs.KindLaws.{row_offset_fits, row_start_fits, row_alone}
 use Rattle.records.proofs.layouts.row_of.Goals as goal
 
 pub overflow_mul-at : goal.overflow_mul-at
@@ -8,8 +8,5 @@ overflow_mul-at c = record { fits = search row_offset_fits }
 pub overflow_add-at : goal.overflow_add-at
 overflow_add-at c = record { fits = search row_start_fits }
 
-pub numbers_at-requires : goal.numbers_at-requires
-numbers_at-requires c = record { sizes = search rules; at_in_bounds = search row_starts }
-
 pub returns : goal.returns
-returns c = search row_held
+returns c = row_alone _ _ c.layout_of-layout.ensures _ _ c.requires _ _ _ refl refl c.numbers_at.ensures
