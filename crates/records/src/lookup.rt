@@ -9,7 +9,7 @@ use super::layouts::{layout_of, row_count, row_of};
 use pairs::CtxState;
 use rules::{ContextRow, Kind, StateRows};
 
-// Row k; all 0 where there is no such row. (From its six bytes: by `row_of`, whose numbers are read one by one, solving takes twice as long.)
+// Row k; all 0 where there is no such row (no option: what may not change, `ContextRowRead`). (From its six bytes: by `row_of`, whose numbers are read one by one, solving takes twice as long.)
 pub fn context_row(b: &[u8], k: usize) -> ContextRow
     ensures { ContextRowRead b.now k result }
 {
@@ -39,7 +39,8 @@ fn state_of(b: &[u8], k: usize) -> usize
     usize::from(b[layout.head_size + k * layout.row_size])
 }
 
-// The first row from row `from` on whose state is `a` or above; where there is none, the number of rows, or `from` where that is beyond them. (No chain,
+// The first row from row `from` on whose state is `a` or above; where there is none, the number of rows, or `from` where that is beyond them: the end
+// of a range, so an option would be no plainer. (No chain,
 // here and in `row_number`: a closure knows nothing of k < n, which reading row k requires.)
 fn first_row(b: &[u8], a: usize, from: usize) -> usize
     ensures { result ≡ first_row (rows_in context_layout b.now) a from }

@@ -13,7 +13,7 @@ pub struct SkidCounts {
     pub specification: Counts,
 }
 
-// Refusals 1 to 7 of the context, then of the specification.
+// Refusals 1 to 7 of the context, then of the specification. (Compiled by itself: put into its callers it runs out of registers.)
 #[tactic(auto, using(crate::proofs::SkidReadLaws::skid_reads))]
 #[inline(never)]
 pub fn read_skid(context: &[u8], specification: &[u8]) -> Result<SkidCounts, Refusal>
