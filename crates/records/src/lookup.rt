@@ -9,7 +9,7 @@ use super::layouts::{layout_of, row_count, row_of};
 use pairs::CtxState;
 use rules::{ContextRow, Kind, StateRows};
 
-// Row k; all 0 where there is no such row (no option: what may not change, `ContextRowRead`). (From its six bytes: by `row_of`, whose numbers are read one by one, solving takes twice as long.)
+// Row k, from its six bytes, none of which is tested to be there; all 0 where there is no such row (no option: what may not change, `ContextRowRead`).
 pub fn context_row(b: &[u8], k: usize) -> ContextRow
     ensures { ContextRowRead b.now k result }
 {
