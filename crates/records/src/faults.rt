@@ -22,6 +22,7 @@ fn is_wrong_length(b: &[u8]) -> bool
     said + 2 != b.len()
 }
 
+#[inline(always)]
 fn is_other_kind(b: &[u8], kind: Kind) -> bool
     requires { 4 ≤ length b.now }
     ensures { result ≡ not (same (kind_in b.now) (layout_of kind).kind) }
@@ -30,6 +31,7 @@ fn is_other_kind(b: &[u8], kind: Kind) -> bool
 }
 
 // Counts cut short, or a broken last row.
+#[inline(always)]
 fn is_cut(b: &[u8], kind: Kind) -> bool
     ensures { result ≡ (ltb (length b.now) (head_size (layout_of kind))
         || not (eqb ((length b.now - head_size (layout_of kind)) % row_size (layout_of kind)) 0)) }
@@ -51,6 +53,7 @@ fn is_within(counts: [u32; 6], limits: &[u16]) -> bool
 }
 
 // The counts are within the limits of the kind.
+#[inline(always)]
 pub fn is_in_limits(counts: [u32; 6], kind: Kind) -> bool
     ensures { Limited kind counts result }
 {
@@ -58,6 +61,7 @@ pub fn is_in_limits(counts: [u32; 6], kind: Kind) -> bool
 }
 
 // A count or the number of rows outside its limit.
+#[inline(always)]
 fn is_outside(b: &[u8], kind: Kind) -> bool
     ensures { result ≡ (not (in_limits (counts_in (layout_of kind) b.now) (layout_of kind).limits)
         || ltb (layout_of kind).row_limit (row_count (layout_of kind) b.now)) }
@@ -72,6 +76,7 @@ fn is_outside(b: &[u8], kind: Kind) -> bool
 }
 
 // Refusals 1 to 4, in their order.
+#[inline(always)]
 fn head_fault(b: &[u8], kind: Kind) -> Result<(), Fault>
     ensures { result ≡ head_fault (layout_of kind) b.now }
 {

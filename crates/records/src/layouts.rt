@@ -58,8 +58,8 @@ static CONTROLLER_LAYOUT: Layout = Layout {
 };
 
 // Bytes and kind come one by one throughout: public functions have them so (what may not change: `RecordRead`, `CountsRead`), and a kind is a constant.
-// Its callers name one kind each: what is marked inline(always) here, in numbers.rt, faults.rt and readers.rt is compiled for each kind by itself, with the
-// sizes written out (without: half as fast).
+// Its callers name one kind each: what is marked inline(always) in this crate is compiled for each kind by itself, with the
+// sizes written out (without: half as fast, and the layouts would stay as data with addresses, which a loader writes).
 #[inline(always)]
 pub(crate) fn layout_of(kind: Kind) -> &'static Layout
     ensures { LaidOut (layout_of kind) result.now }

@@ -8,6 +8,7 @@ use super::tables::{fill_table, zero_after};
 use rules::{Counts, Kind, NEXT_NUMBERS, Refusal};
 
 // The counts that the bytes of a record say, whether it is legal or not.
+#[inline(always)]
 pub fn record_counts(b: &[u8], kind: Kind) -> Counts
     ensures { CountsRead kind b.now result }
 {

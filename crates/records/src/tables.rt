@@ -37,6 +37,7 @@ fn put_step(table: &mut [u16], row: [u32; 6], m: u32, n: u32)
 }
 
 // The steps of all rows, upward.
+#[inline(always)]
 fn put_steps(b: &[u8], kind: Kind, m: u32, n: u32, table: &mut [u16])
     requires { (m < 65536) × (n < 65536) }
     ensures { table.new ≡ foldl (with_row m n) table.old (rows_in (layout_of kind) b.now) }
@@ -48,6 +49,7 @@ fn put_steps(b: &[u8], kind: Kind, m: u32, n: u32, table: &mut [u16])
 }
 
 // The next table of the rows at the front of the lent numbers, and its size; nothing is written where they are too few.
+#[inline(always)]
 pub(crate) fn fill_table(
     b: &[u8],
     kind: Kind,
