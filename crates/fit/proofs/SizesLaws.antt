@@ -18,7 +18,7 @@ use Rattle.rules.proofs.NextTables.{table_length}
 use Rattle.rules.proofs.Read.{agreeing}
 use Rattle.verdicts.specs.Checkable.{Checkable}
 use Rattle.tables.specs.declared.Sizes.{Sizes}
-use Rattle.tables.specs.Inside.{Few, Workable}
+use Rattle.tables.specs.Workable.{Few, Workable}
 use Rattle.tables.specs.Skids.{skid_counts, SkidRead}
 use Rattle.tables.proofs.SkidLaws.{sizes_read, sizes_workable}
 use Rattle.fit.specs.Ready.{Ready}

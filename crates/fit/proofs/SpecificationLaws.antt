@@ -7,7 +7,7 @@ use lib.ListN.{length, take}
 use Rattle.rules.specs.Tables.{specification_table, SpecificationFilled}
 use Rattle.verdicts.specs.Verdict.{Verdict}
 use Rattle.tables.specs.declared.Sizes.{Sizes}
-use Rattle.tables.specs.Inside.{Few}
+use Rattle.tables.specs.Workable.{Few}
 use Rattle.tables.proofs.SpecificationLaws.{lent_has, lent_had}
 use Rattle.fit.specs.Ready.{Ready, Judged}
 

@@ -18,7 +18,7 @@ use Rattle.rules.proofs.NotRefused.{or_else_fine, unless_fine}
 use Rattle.answers.specs.declared.Wanted.{Wanted}
 use Rattle.answers.specs.Solve.{Answer, answer_reply, solution, solved, solve_refusal, solve_for, SolvedFor}
 use Rattle.tables.specs.declared.Sizes.{Sizes}
-use Rattle.tables.specs.Inside.{skid_in}
+use Rattle.tables.specs.Workable.{skid_in}
 use Rattle.tables.specs.declared.skids.SkidCounts.{SkidCounts}
 use Rattle.tables.specs.Skids.{sizes_of, skid_reading, SkidRead}
 use Rattle.tables.proofs.SkidReadLaws.{skid_read, skid_fine}

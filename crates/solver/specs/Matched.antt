@@ -10,7 +10,7 @@ use Rattle.rules.specs.declared.Refusal.{Refusal}
 use Rattle.rules.specs.Replies.{unless, ◌or_else◌, refusal_reply}
 use Rattle.rules.specs.Tables.{specification_table}
 use Rattle.tables.specs.declared.Sizes.{Sizes}
-use Rattle.tables.specs.Inside.{Workable}
+use Rattle.tables.specs.Workable.{Workable}
 use Rattle.tables.specs.declared.skids.SkidCounts.{SkidCounts}
 use Rattle.tables.specs.Skids.{outcome_reply}
 use Rattle.solver.specs.Long.{Long}

@@ -1,7 +1,7 @@
 // The answer of two records, by mode or by name: they are read, refused or matched, and solved.
 ghost use Rattle.rules.specs.Tables.{specification_table};
 ghost use Rattle.answers.specs.Solve.{solution, Solved, SolvedFor};
-ghost use Rattle.tables.specs.Inside.{skid_in, Workable};
+ghost use Rattle.tables.specs.Workable.{skid_in, Workable};
 ghost use Rattle.tables.specs.Ready.{ready_skid};
 ghost use Rattle.solver.specs.Long.{Long};
 ghost use Rattle.solver.specs.Inside.{Answered, AnsweredIn};

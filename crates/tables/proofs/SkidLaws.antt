@@ -19,7 +19,7 @@ use Rattle.rules.proofs.NextTables.{table_length}
 use Rattle.rules.proofs.Read.{agreeing}
 use Rattle.tables.specs.declared.Sizes.{Sizes}
 use Rattle.tables.specs.declared.skids.SkidCounts.{SkidCounts}
-use Rattle.tables.specs.Inside.{skid_in, Few, Workable}
+use Rattle.tables.specs.Workable.{skid_in, Few, Workable}
 use Rattle.tables.specs.Skids.{sizes_of, SkidRead}
 
 -- the counts that were read are those of the records

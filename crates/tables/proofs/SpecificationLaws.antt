@@ -11,7 +11,7 @@ use borrow.Author.Tests.{le-leb}
 use Rattle.pairs.specs.Lent.{leading}
 use Rattle.rules.specs.Tables.{specification_table, fill_specification, SpecificationFilled}
 use Rattle.tables.specs.declared.Sizes.{Sizes}
-use Rattle.tables.specs.Inside.{Few}
+use Rattle.tables.specs.Workable.{Few}
 
 module _ (z : Sizes) where
   abbrev size : ℕ

@@ -6,3 +6,4 @@ pub mod Skids
 pub mod States
 pub mod Steps
 pub mod Usable
+pub mod Workable
