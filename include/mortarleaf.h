@@ -113,8 +113,8 @@ static inline const char *mortarleaf_words(uint32_t number) {
  * Threads. The entries have no memory of their own but the stack. So every entry may be called from several threads at once, as long as no
  * thread writes into a buffer, or has a call write into it, that a call of another thread is using. Buffers that are only read may be shared.
  *
- * Stack. A call takes less than this many bytes of it, on x86-64; nothing is allocated. Measured on the archives of version 1.0.0: reading 472,
- * writing 120, the check 34,024, solving 32,824; and up to 3,000 more where a program that binds functions late makes its first call. */
+ * Stack. A call takes less than this many bytes of it, on x86-64; nothing is allocated. Measured on the archives of version 1.0.0: reading 280,
+ * writing 112, the check 33,896, solving 33,000; and up to 3,000 more where a program that binds functions late makes its first call. */
 enum {
     MORTARLEAF_READ_STACK = 4096,   /* mortarleaf_read_context, mortarleaf_read_specification, mortarleaf_read_controller */
     MORTARLEAF_WRITE_STACK = 4096,  /* mortarleaf_write_controller */

@@ -23,7 +23,7 @@ use Rattle.rules.specs.declared.Refusal.{Refusal}
 use Rattle.tables.specs.declared.discovery.StateTable.{StateTable}
 use Rattle.tables.specs.declared.discovery.Discovered.{Discovered}
 use Rattle.tables.specs.Discovery.{number_of}
-use Rattle.tables.specs.States.{StatesDiscovered}
+use Rattle.tables.specs.States.{StatesDiscovered, DiscoveredInto}
 use Rattle.tables.specs.Ready.{RowsRead, SpecificationStepped, AnsweringAll, ContinuingFrom}
 use Rattle.tables.specs.Skids.{RecordsRead, SidedBy, OutsideMatched, PairsFew, RoomFound}
 use Rattle.tables.specs.Steps.{NextRead, SpecificationNextRead, ControllerNextRead}
@@ -95,3 +95,6 @@ module _ (t : StateTable) (d e : Discovered) (f : StatesDiscovered t d) (g : Sta
 
 pub states_discovered_determined : (t : StateTable) (d e : Discovered) → StatesDiscovered t d → StatesDiscovered t e → d ≡ e
 states_discovered_determined t d e f g = both_same t d e f g
+
+pub discovered_into_determined : (t : StateTable) (before d e : Discovered) → DiscoveredInto t before d → DiscoveredInto t before e → d ≡ e
+discovered_into_determined t before d e f g = both_same t d e f g
