@@ -12,8 +12,8 @@ const ROOM: usize = SOLVE_LIMIT + 1;
 // (That of `fit_table` has other limits and another function in these lines; one for both would be no plainer.)
 fn main(rt: HostRuntime) -> io::Result<()> {
     let mut input = [0u8; ROOM];
+    let mut out = [0u8; SOLVE_TEXT]; // before the read: behind it the text's room would be cleared twice
     let n = read_full(&mut rt.stdin(), &mut input)?;
-    let mut out = [0u8; SOLVE_TEXT];
     let size = solve_text(&input[..n], &mut out);
     rt.stdout().write_all(&out[..size])
 }
