@@ -1,11 +1,13 @@
 -- What the functions need that go by the layout of a kind of record.
 -- Assumes nothing.
 use mathlib.Core.Path.{◌≡◌, sym, ap}
+use mathlib.Core.Bool.{◌&&◌}
 use mathlib.Core.List.{List, []}
 use borrow.Author.Rules.{rules}
 use Prim.Native.Nat.{ℕ, suc, ◌+◌, ◌-◌, ◌*◌, ◌/◌, ◌^◌, ◌≤◌, ◌<◌}
 use native.Mathlib.Nat.{zero-div, suc-mul, le-div_iff_mul-le}
 use native.Mathlib.Omega.{arith}
+use lib.Dec.{T, leb, leb→le}
 use lib.ListN.{length, get_or, take, drop}
 use lib.Seq.{drop-drop}
 use Rattle.rules.specs.declared.Kind.{Kind}
@@ -15,15 +17,17 @@ use Rattle.rules.specs.Layouts.{Layout, context_layout, specification_layout, co
 use Rattle.rules.specs.Bytes.{numbers}
 use Rattle.rules.specs.Records.{head_size, counts_in, row_count, rows_in}
 use Rattle.rules.proofs.ByPlace.{rows_at}
-use Rattle.pairs.specs.Scans.{total}
+use Rattle.pairs.specs.Scans.{all, total}
 use Rattle.records.proofs.NumberLaws.{numbers_alone}
-use Rattle.records.specs.Inside.{Held, LaidOut}
+use Rattle.records.specs.Inside.{Held, Sizes, LaidOut}
 
 -- what the three layouts have in common
 pub record Laid (l : Layout) : Type 0 where
   pub key_some : 1 ≤ l.key_size
   pub key_within : l.key_size ≤ length l.field_sizes
   pub limit_each : length l.limits ≡ length l.count_sizes
+  pub few_fields : length l.field_sizes ≤ 6
+  pub few_counts : length l.count_sizes ≤ 6
   pub below_each : length l.below ≡ length l.field_sizes
   pub rows_few : l.row_limit < 65536
 
@@ -71,3 +75,7 @@ module _ (l : Layout) (s : code.Layout) (known : LaidOut l s) (b : List ℕ) whe
     row_alone held row end e r h =
         let size : end - (s.head_size + k * s.row_size) ≡ total s.field_sizes.now = omega (arith, e, known.row_is, ap total known.field_sizes_are) in
         row_held held (rw (r, size, numbers_alone s.field_sizes.now (drop (s.head_size + k * s.row_size) b)) at h)
+
+-- sizes that are written out
+pub sizes : (ws : List ℕ) → T (leb (length ws) 6) → T (all (λ w. leb 1 w && leb w 2) ws) → Sizes ws
+sizes ws few each = record { few = leb→le (length ws) 6 few; each = each }

@@ -57,9 +57,9 @@ static CONTROLLER_LAYOUT: Layout = Layout {
     row_size: 6,
 };
 
-// Bytes and kind come one by one throughout: public functions have them so (what may not change: `RecordRead`, `CountsRead`), and a kind is a constant.
-// Its callers name one kind each: what is marked inline(always) in this crate is compiled for each kind by itself, with the
-// sizes written out (without: half as fast, and the layouts would stay as data with addresses, which a loader writes).
+// Bytes and kind come one by one throughout: public functions have them so (what may not change: `CountsRead`, `ContextRead` and `SpecificationRead`, which
+// `RecordRead` is for a kind), and a kind is a constant. Its callers name one kind each: what is marked inline(always) in this crate is compiled for each
+// kind by itself, with the sizes written out (without: half as fast, and the layouts would stay as data with addresses, which a loader writes).
 #[inline(always)]
 pub(crate) fn layout_of(kind: Kind) -> &'static Layout
     ensures { LaidOut (layout_of kind) result.now }

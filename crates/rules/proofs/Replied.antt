@@ -35,7 +35,7 @@ fault_some (LowerKey row) = refl
 
 -- what was found
 module _ (kind : Kind) (counts : Counts) where
-  replied : (f : Finding) → reading_reply (read_unless kind f counts) ≡ (if refuses (fault_reply (record_number kind) f) then fault_reply (record_number kind) f else success counts.states 0)
+  pub replied : (f : Finding) → reading_reply (read_unless kind f counts) ≡ (if refuses (fault_reply (record_number kind) f) then fault_reply (record_number kind) f else success counts.states 0)
   unfolding read_unless fault_reply
   replied (Ok _) = refl
   replied (Err f) = rw (fault_some f)
