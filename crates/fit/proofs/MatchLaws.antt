@@ -5,7 +5,7 @@ use mathlib.Core.Path.{◌≡◌, refl, ap, ap₂, ◌∙◌}
 use mathlib.Core.Logic.{◌≢◌}
 use mathlib.Core.Bool.{Bool, true, false, ◌&&◌}
 use mathlib.Core.List.{List}
-use Prim.Native.Nat.{ℕ, ◌*◌}
+use Prim.Native.Nat.{ℕ, ◌*◌, ◌<◌}
 use lib.Dec.{leb, eqb}
 use lib.ListN.{length}
 use borrow.Author.Tests.{eq-eqb, ne_eqb}
@@ -14,7 +14,7 @@ use Rattle.pairs.specs.Lent.{set_size}
 use Rattle.rules.specs.declared.Reply.{Reply}
 use Rattle.rules.specs.declared.Counts.{Counts}
 use Rattle.rules.specs.declared.Refusal.{Refusal}
-use Rattle.rules.specs.declared.Refusal.TheVariants.{Codes}
+use Rattle.rules.specs.declared.Refusal.TheVariants.{Codes, Pairs}
 use Rattle.rules.specs.declared.Kind.TheVariants.{Controller}
 use Rattle.rules.specs.Limits.{state_limit, set_numbers}
 use Rattle.rules.specs.Layouts.{controller_layout}
@@ -24,7 +24,7 @@ use Rattle.rules.specs.Matching.{skid_refusal, outside_agree, outside_refusal, l
 use Rattle.verdicts.specs.Check.{check_refusal}
 use Rattle.tables.specs.declared.skids.SkidCounts.{SkidCounts}
 use Rattle.tables.specs.Skids.{ok_if, ◌and_then◌, outcome_reply, skid_counts, OutsideMatched, PairsFew, RoomFound}
-use Rattle.tables.proofs.SkidMatchLaws.{and_then_told, outside_told, pairs_told, room_told}
+use Rattle.tables.proofs.SkidMatchLaws.{and_then_told, outside_told, pairs_over, pairs_told, room_told}
 use Rattle.fit.specs.Matched.{LettersMatched, match_refusal}
 
 -- ---- 8 of the controller
@@ -64,6 +64,9 @@ module _ (k : SkidCounts) (t : Counts) (room : ℕ) where
       pub pairs_refuse : (r : Refusal) → PairsFew k (Err r) → Err r ≡ match_refusal k t room
       unfolding match_refusal
       pairs_refuse r e = passed_on tt _ _ _ outside (passed_on tt _ _ _ letters (refused_by r _ _ e))
+
+      pub product_over : 64 < k.context.states * k.specification.states → Err Pairs ≡ match_refusal k t room
+      product_over h = pairs_refuse Pairs (pairs_over k h)
 
       pub room_decides : PairsFew k (Ok tt) → (r : Result Unit Refusal) → RoomFound room 512 r → r ≡ match_refusal k t room
       unfolding match_refusal set_numbers state_limit set_size

@@ -26,6 +26,7 @@ fn same_letters(c: Counts, t: Counts) -> Result<(), Refusal>
 }
 
 // Refusals 8, 9 and 10 of three records that were read, in document 01's order: of their counts, and of so many lent numbers.
+#[tactic(auto, using(crate::proofs::MatchLaws::product_over))]
 fn match_refusal(skid: &SkidCounts, t: Counts, lent: usize) -> Result<(), Refusal>
     ensures { result ≡ match_refusal skid.now t lent }
 {

@@ -43,6 +43,7 @@ pub fn record_counts(b: &[u8], kind: Kind) -> Counts
 }
 
 // A record of any kind: its counts, or its refusal.
+#[tactic(auto, using(crate::proofs::ReadLaws::record_refused, crate::proofs::ReadLaws::record_read))]
 #[inline(always)]
 pub fn read_record(b: &[u8], kind: Kind) -> Result<Counts, Refusal>
     ensures { RecordRead kind b.now result }

@@ -4,12 +4,12 @@ use Rattle.std.specs.Prelude.{Result, Ok, Err}
 use mathlib.Core.Path.{◌≡◌, refl, sym, ap, ◌∙◌}
 use mathlib.Core.Bool.{Bool, true, false, ◌&&◌}
 use mathlib.Core.List.{List}
-use Prim.Native.Nat.{ℕ}
+use Prim.Native.Nat.{ℕ, ◌*◌, ◌<◌}
 use lib.Dec.{leb}
 use lib.ListN.{length}
 use Rattle.pairs.specs.Lent.{set_size}
 use Rattle.rules.specs.declared.Refusal.{Refusal}
-use Rattle.rules.specs.declared.Refusal.TheVariants.{Room}
+use Rattle.rules.specs.declared.Refusal.TheVariants.{Pairs, Room}
 use Rattle.rules.specs.Limits.{state_limit, set_numbers, next_numbers}
 use Rattle.rules.specs.Counts.{context_counts, specification_counts}
 use Rattle.rules.specs.Replies.{unless, ◌or_else◌, refusal_reply}
@@ -17,7 +17,7 @@ use Rattle.rules.specs.Matching.{skid_refusal, outside_agree, outside_refusal, p
 use Rattle.answers.specs.Solve.{solve_refusal}
 use Rattle.tables.specs.declared.skids.SkidCounts.{SkidCounts}
 use Rattle.tables.specs.Skids.{ok_if, outcome_reply, OutsideMatched, PairsFew, RoomFound}
-use Rattle.tables.proofs.SkidMatchLaws.{refused_first, fine_first, outside_told, pairs_told}
+use Rattle.tables.proofs.SkidMatchLaws.{refused_first, fine_first, outside_told, pairs_over, pairs_told}
 use Rattle.solver.specs.Matched.{match_refusal, Matching}
 
 -- ---- 10 is one refusal of two tests
@@ -42,6 +42,9 @@ module _ (k : SkidCounts) (sets next : ℕ) where
     pub pairs_refused : (r : Refusal) → PairsFew k (Err r) → Matching k sets next (Err r)
     unfolding match_refusal
     pairs_refused r e = refused_first r _ _ (pairs_told k (Err r) e) ∙ sym (fine_first _ _ (outside_told k (Ok u) same))
+
+    pub product_over : 64 < k.context.states * k.specification.states → Matching k sets next (Err Pairs)
+    product_over h = pairs_refused Pairs (pairs_over k h)
 
     module _ (v : Unit) (few : PairsFew k (Ok v)) where
       so_far : match_refusal k.context k.specification sets next ≡ unless (leb set_numbers sets && leb next_numbers next) 10 0

@@ -1,4 +1,4 @@
--- The answer by its name and by its mode, from what a `match` has told.
+-- The answer by its mode, from what a `match` has told.
 -- Assumes nothing.
 use Rattle.std.specs.Prelude.{Option, Some, None}
 use mathlib.Core.Path.{◌≡◌, refl, sym, subst, ◌∙◌}

@@ -20,6 +20,7 @@ use tables::skids::{SkidCounts, read_skid, room, sizes_of};
 use tables::{INDEX, SPECIFICATION_NUMBERS, Sizes};
 
 // Refusals 8, 9 and 10 of two records that were read, with these counts, and of so many lent numbers.
+#[tactic(auto, using(crate::proofs::MatchLaws::product_over))]
 fn match_counts(k: &SkidCounts, sets: usize, next: usize) -> Result<(), Refusal>
     ensures { Matching k.now sets next result }
 {

@@ -39,6 +39,7 @@ impl SkidCounts {
     }
 
     // Refusal 9: there are more pairs of states than a set has places. Of counts of 32 bits the product does not overflow.
+    #[tactic(auto, using(crate::proofs::SkidMatchLaws::pairs_over, crate::proofs::SkidMatchLaws::pairs_within))]
     pub fn few_pairs(&self) -> Result<(), Refusal>
         ensures { PairsFew self.now result }
     {
