@@ -22,15 +22,14 @@ module _ (b : List ℕ) where
   said : get_or b 0 0 + get_or b 1 0 * 256 + 2 ≡ length_in b + 2
   said = rw (little_two b) (omega arith)
 
-  -- "where its length says", or all bytes "if that is too far"
-  pub told_end : 2 ≤ length b → min (get_or b 0 0 + get_or b 1 0 * 256 + 2) (length b) ≡ record_end b
+  -- "where its length says", or all bytes "if that is too far", however the number is reckoned
+  pub told_end : (n : ℕ) → n ≡ get_or b 0 0 + get_or b 1 0 * 256 + 2 → 2 ≤ length b → min n (length b) ≡ record_end b
   unfolding record_end
-  told_end h = rw (le-ltb (length b) 2 h) (go (ltb (length b) (length_in b + 2)) refl)
+  told_end n is h = rw (le-ltb (length b) 2 h) (go (ltb (length b) (length_in b + 2)) refl)
     where
-      go : (far : Bool) → ltb (length b) (length_in b + 2) ≡ far
-          → min (get_or b 0 0 + get_or b 1 0 * 256 + 2) (length b) ≡ (if far then length b else length_in b + 2)
-      go true e = omega (arith, said, ltb-true (length b) (length_in b + 2) e)
-      go false e = omega (arith, said, ltb-false (length b) (length_in b + 2) e)
+      go : (far : Bool) → ltb (length b) (length_in b + 2) ≡ far → min n (length b) ≡ (if far then length b else length_in b + 2)
+      go true e = omega (arith, is, said, ltb-true (length b) (length_in b + 2) e)
+      go false e = omega (arith, is, said, ltb-false (length b) (length_in b + 2) e)
 
   pub end_within : record_end b ≤ length b
   unfolding record_end
